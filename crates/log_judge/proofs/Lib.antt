@@ -1,0 +1,5 @@
+mod Parting
+mod OneFault
+mod Named
+mod Files
+mod Told

@@ -1,0 +1,4 @@
+mod Stops
+mod FirstFaults
+mod Taken
+mod Made

@@ -1,0 +1,11 @@
+use Rattle.log_replay.proofs.FirstFaults.{one_replay_fault, right_have_no_fault, right_are_unique}
+use Rattle.log_replay.proofs.laws.faults_are_first.Goals as goal
+
+pub returns-clause-one : goal.returns-clause-one
+returns-clause-one c = one_replay_fault c.orders_are_unique.ensures.ranked c.orders_are_unique.ensures.unique
+
+pub returns-clause-none : goal.returns-clause-none
+returns-clause-none c = right_have_no_fault c.orders_are_unique.ensures.ranked c.orders_are_unique.ensures.unique
+
+pub returns-clause-unique : goal.returns-clause-unique
+returns-clause-unique c = right_are_unique c.replayed_keep_lists.ensures.unique

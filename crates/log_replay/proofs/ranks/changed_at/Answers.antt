@@ -1,0 +1,31 @@
+use Rattle.std.proofs.Common.{◌≡◌, ◌<◌, List, [], ℕ, length, map, Some, Contains, refl, sym, ap, subst, ◌∙◌, arith}
+use Rattle.std.specs.Prelude.{get_or}
+use Rattle.std.proofs.lemmas.List.{length-map}
+use Rattle.std.proofs.lemmas.Option.{slice_get-get_or}
+use Rattle.std.proofs.lemmas.Result.{IfErr-weaker, IfOk-weaker}
+use Rattle.std.specs.Arc.{arc_value}
+use Rattle.call_order.specs.Units.{call_lists}
+use Rattle.g_graph.specs.Plain.{PlainLambda, PlainOptimised}
+use Rattle.g_pass_def.specs.Answers.{lambdas_of}
+use Rattle.g_pass_def.specs.Replayed.{lambdas_at}
+use Rattle.log_replay.specs.Right.{AreRightUntil}
+use Rattle.log_replay.specs.Fault.{IsReplayFault}
+use Rattle.log_replay.proofs.Made.{row}
+use Rattle.log_replay.proofs.Taken.{right-at, wrong-at}
+use Rattle.log_replay.proofs.ranks.changed_at.Goals as goal
+
+pub callees_of-requires : goal.callees_of-requires
+callees_of-requires c d has =
+    let ls = c.args.lambdas.now in
+    let order = c.args.order.now in
+    let deps = call_lists order.deps.items in
+    let ranked = c.orders_are_unique.ensures.ranked ls order.ranks.items deps c.requires.order in
+    let inside : c.args.function < length order.deps.items = omega (arith, c.requires.inside, ranked.deps_length, length-map order.deps.items (λ v. v.items)) in
+    let row_is = row order.deps.items c.args.function c.index.result.now inside c.index.ensures ∙ sym c.deref.ensures.value in
+    let dep = ranked.dep c.args.function d (subst (λ (ds : List ℕ). Contains ds d) (sym row_is) has) in
+    omega (arith, dep.known, c.requires.before.count, length-map (map arc_value c.args.made.now) (λ (o : PlainOptimised). o.lambda), length-map c.args.made.now arc_value)
+
+pub replay_function-requires-clause-well_formed : goal.replay_function-requires-clause-well_formed
+replay_function-requires-clause-well_formed c =
+    let l = c.index-lambdas-function.result in
+    c.requires.complete.well_formed c.args.function l (slice_get-get_or c.args.lambdas.now c.args.function l c.requires.inside ∙ ap (λ k. Some k) (sym c.index-lambdas-function.is))

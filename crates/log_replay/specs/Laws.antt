@@ -1,0 +1,21 @@
+-- Laws of logs whose steps are replayed.
+use Rattle.std.specs.Prelude.{◌≡◌, ◌≢◌, List}
+use Rattle.g_graph.specs.Plain.{PlainLambda}
+use Rattle.log_check.specs.Log.{PlainPart}
+use Rattle.log_replay.specs.Right.{AreRight}
+use Rattle.log_replay.specs.Fault.{IsReplayFault}
+use Rattle.log_replay.specs.declared.fault.ReplayFault.{ReplayFault}
+use Rattle.log_replay.specs.declared.fault.ReplayFault.TheVariants.{NoMemory}
+
+-- A log has one fault at most,
+abbrev pub OneReplayFault : Type 0
+OneReplayFault =
+    (ls : List PlainLambda) (log : List PlainPart) (e f : ReplayFault) → e ≢ NoMemory → f ≢ NoMemory → IsReplayFault ls log e → IsReplayFault ls log f → e ≡ f
+
+-- none where it is right,
+abbrev pub RightHaveNoFault : Type 0
+RightHaveNoFault = (ls : List PlainLambda) (log : List PlainPart) (ks : List PlainLambda) (e : ReplayFault) → e ≢ NoMemory → AreRight ls log ks → IsReplayFault ls log e → ⊥
+
+-- and makes one list at most.
+abbrev pub RightAreUnique : Type 0
+RightAreUnique = (ls : List PlainLambda) (log : List PlainPart) (ks js : List PlainLambda) → AreRight ls log ks → AreRight ls log js → ks ≡ js
