@@ -41,11 +41,11 @@ same-to-end xs ys d long same =
 
 -- ---- bytes
 
-pub same-here : (xs ys : List ℕ) (n : ℕ) → n < length xs → n < length ys → slice_index xs n ≡ slice_index ys n → slice_get xs n ≡ slice_get ys n
-same-here xs ys n inside within e = slice_get-get_or xs n 0 inside ∙ (ap (λ x. Some x) e ∙ sym (slice_get-get_or ys n 0 within))
+pub same_here : (xs ys : List ℕ) (n : ℕ) → n < length xs → n < length ys → slice_index xs n ≡ slice_index ys n → slice_get xs n ≡ slice_get ys n
+same_here xs ys n inside within e = slice_get-get_or xs n 0 inside ∙ (ap (λ x. Some x) e ∙ sym (slice_get-get_or ys n 0 within))
 
-pub bytes-apart : (xs ys : List ℕ) (n : ℕ) → ((j : ℕ) → j < n → slice_get xs j ≡ slice_get ys j) → n < length xs → n < length ys → slice_index xs n ≢ slice_index ys n → PartAt xs ys n
-bytes-apart xs ys n same inside within other =
+pub bytes_apart : (xs ys : List ℕ) (n : ℕ) → ((j : ℕ) → j < n → slice_get xs j ≡ slice_get ys j) → n < length xs → n < length ys → slice_index xs n ≢ slice_index ys n → PartAt xs ys n
+bytes_apart xs ys n same inside within other =
     record {
       same = same;
       other = λ e.
@@ -53,11 +53,11 @@ bytes-apart xs ys n same inside within other =
           other (let equal : slice_index xs n ≡ slice_index ys n = cc in equal);
     }
 
-pub ends-differ : (xs ys : List ℕ) → ((j : ℕ) → j < length xs → slice_get xs j ≡ slice_get ys j) → length xs < length ys → PartAt xs ys (length xs)
-ends-differ xs ys same low = ends-apart xs ys (length xs) same (omega arith) low 0
+pub ends_differ : (xs ys : List ℕ) → ((j : ℕ) → j < length xs → slice_get xs j ≡ slice_get ys j) → length xs < length ys → PartAt xs ys (length xs)
+ends_differ xs ys same low = ends-apart xs ys (length xs) same (omega arith) low 0
 
-pub goes-past : (xs ys : List ℕ) (n : ℕ) → ((j : ℕ) → j < n → slice_get xs j ≡ slice_get ys j) → length ys ≤ n → n < length xs → PartAt xs ys n
-goes-past xs ys n same short long = ends-before xs ys n same short long 0
+pub goes_past : (xs ys : List ℕ) (n : ℕ) → ((j : ℕ) → j < n → slice_get xs j ≡ slice_get ys j) → length ys ≤ n → n < length xs → PartAt xs ys n
+goes_past xs ys n same short long = ends-before xs ys n same short long 0
 
-pub same-bytes : (xs ys : List ℕ) → length xs ≡ length ys → ((j : ℕ) → j < length xs → slice_get xs j ≡ slice_get ys j) → xs ≡ ys
-same-bytes xs ys long same = same-to-end xs ys 0 long same
+pub same_bytes : (xs ys : List ℕ) → length xs ≡ length ys → ((j : ℕ) → j < length xs → slice_get xs j ≡ slice_get ys j) → xs ≡ ys
+same_bytes xs ys long same = same-to-end xs ys 0 long same

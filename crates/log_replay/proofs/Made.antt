@@ -1,6 +1,6 @@
 -- One step more, and one callee more.
 use Rattle.std.proofs.Common.{◌≡◌, ◌≢◌, ◌<◌, ◌≤◌, ◌+◌, ◌-◌, ◌^◌, ℕ, zero, suc, Bool, true, false, List, [], ◌∷◌, ◌++◌, length, map, take, None, Some, slice_get, get_or, set, Vec, Global, refl, sym, ap, subst, ◌∙◌, arith}
-use Rattle.std.specs.Prelude.{min, not, option_and_then, Option, if◌then◌else◌, unwrap_or, option_map}
+use Rattle.std.specs.Prelude.{min, option_and_then, Option, if◌then◌else◌, unwrap_or, option_map}
 use Rattle.std.proofs.lemmas.List.{get_or-map, map-append, map-set, take_more}
 use Rattle.std.proofs.lemmas.Option.{slice_get-get_or, slice_get-map}
 use Rattle.std.specs.Arc.{arc_value}
@@ -33,11 +33,6 @@ one-more callees (t ∷ steps) l k j (suc n) s made next step =
         option_and_then (replayed rules callees (take n steps)) o ≡ Some k → option_and_then (replayed rules callees (take (suc n) steps)) o ≡ Some j
     goes-on None rest e = absurd cc
     goes-on (Some x) rest e = rest x e
-
--- a step that is not unmade is made
-pub is-made : (made : Bool) → not made ≡ false → made ≡ true
-is-made true e = refl
-is-made false e = absurd cc
 
 pub step-made : (callees : List PlainLambda) (steps : List Step) (l k j : PlainLambda) (n : ℕ) (d : Step) (made : Bool) → n < length steps → replayed rules callees (take n steps) l ≡ Some k →
     rules.step (get_or steps n d).rule callees (get_or steps n d).node k ≡ (if made then Some j else None) → made ≡ true → replayed rules callees (take (n + 1) steps) l ≡ Some j

@@ -46,14 +46,14 @@ module _ (ls : List PlainLambda) (ranks : List ℕ) (deps : List (List ℕ)) (lo
       }
 
   -- all functions of a rank are taken
-  pub rank-up : (r : ℕ) (ks : List PlainLambda) → AreRightUntil ls ranks deps log r (length ls) ks → AreRightUntil ls ranks deps log (r + 1) 0 ks
-  rank-up r ks now =
+  pub rank-up : (r i : ℕ) (ks : List PlainLambda) → length ls ≤ i → AreRightUntil ls ranks deps log r i ks → AreRightUntil ls ranks deps log (r + 1) 0 ks
+  rank-up r i ks whole now =
       record {
         count = now.count;
         each = λ d inside taken.
             let low : rank d < r + 1 = elim taken [ inl low ↦ low | inr none ↦ absurd (omega (arith, none.1)) ] in
             elim (cases_eq (rank d) r) [
-              | inl q ↦ now.each d inside (inr (q, inside))
+              | inl q ↦ now.each d inside (inr (q, omega (arith, inside, whole)))
               | inr q ↦ now.each d inside (inl (omega (arith, low, q)))
             ];
       }

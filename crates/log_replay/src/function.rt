@@ -26,11 +26,10 @@ pub fn replay_function(
 ) -> Result<Lambda, ReplayFault>
     requires well_formed { IsWellFormed lambda.now }
     requires short { part.now.line + length part.now.steps < 2 ^ 32 }
-    ensures made { IfOk result (λ changed.
-        replayed rules (lambdas_of (map arc_value callees.now)) part.now.steps lambda.now
-        ≡ Some changed) }
+    ensures right { IfOk result (λ changed.
+        (replayed rules (lambdas_of (map arc_value callees.now)) part.now.steps lambda.now
+        ≡ Some changed) × HasCounts part.now lambda.now changed) }
     ensures well_formed { IfOk result (λ changed. IsWellFormed changed) }
-    ensures counts { IfOk result (λ changed. HasCounts part.now lambda.now changed) }
     ensures fault { IfErr result (λ e.
         IsFunctionFault (lambdas_of (map arc_value callees.now)) lambda.now part.now e) }
 {

@@ -59,12 +59,13 @@ fn changed_at(
     replay_function(alloc, &lambdas[function], &callees, &log[function])
 }
 
-// Takes the next function of a rank.
+// Takes the next function, if it is of this rank.
 fn replay_at(
     alloc: Global,
     lambdas: &[Lambda],
     order: &Order,
     log: &[LogPart],
+    rank: usize,
     function: usize,
     made: &mut Vec<Arc<Optimised>>,
 ) -> Result<(), ReplayFault>
@@ -75,13 +76,17 @@ fn replay_at(
         → (part_at log.now j).line + length (part_at log.now j).steps < 2 ^ 32 }
     requires inside { function < length lambdas.now }
     requires before { AreRightUntil lambdas.now order.now.ranks.items
-        (call_lists order.now.deps.items) log.now (slice_index order.now.ranks.items function)
-        function (lambdas_of (map arc_value made.old.items)) }
+        (call_lists order.now.deps.items) log.now rank function
+        (lambdas_of (map arc_value made.old.items)) }
     ensures right { OnOk result (AreRightUntil lambdas.now order.now.ranks.items
-        (call_lists order.now.deps.items) log.now (slice_index order.now.ranks.items function)
-        (function + 1) (lambdas_of (map arc_value made.new.items))) }
+        (call_lists order.now.deps.items) log.now rank (function + 1)
+        (lambdas_of (map arc_value made.new.items))) }
     ensures fault { IfErr result (λ e. IsReplayFault lambdas.now log.now e) }
 {
+    orders_are_unique();
+    if order.ranks[function] as usize != rank {
+        return Ok(());
+    }
     let changed = changed_at(alloc, lambdas, order, log, function, made)?;
     made[function] = without_steps(alloc, changed)?;
     Ok(())
@@ -110,9 +115,7 @@ fn replay_rank(
 {
     orders_are_unique();
     for function in 0..lambdas.len() {
-        if order.ranks[function] as usize == rank {
-            replay_at(alloc, lambdas, order, log, function, made)?;
-        }
+        replay_at(alloc, lambdas, order, log, rank, function, made)?;
     }
     Ok(())
 }

@@ -18,7 +18,7 @@ loop-number-preserved c =
     let numbers = c.args.numbers.now in
     let n = get_or numbers c.loop-number.number-index 0 in
     let callee = c.index-made-number.result in
-    let there : n < length made = bounds-made-number c in
+    let there : n < length made = c.requires n (Contains-get_or numbers c.loop-number.number-index 0 c.loop-number-test.true) in
     let many : n < length (map arc_value made) = omega (arith, there, length-map made arc_value) in
     let is : arc_value callee ≡ get_or (map arc_value made) n (arc_value callee) = ap arc_value c.index-made-number.is ∙ sym (get_or-map arc_value made n callee (arc_value callee) there) in
     ap lambdas_of c.in_ok-push_callee.ensures

@@ -1,5 +1,5 @@
-use Rattle.std.proofs.Common.{◌≡◌, ◌<◌, List, [], ℕ, length, map, Some, Contains, refl, sym, ap, subst, ◌∙◌, arith}
-use Rattle.std.specs.Prelude.{get_or}
+use Rattle.std.proofs.Common.{◌≡◌, ◌<◌, ◌+◌, List, [], ℕ, length, map, Some, Contains, refl, sym, ap, subst, ◌∙◌, arith}
+use Rattle.std.specs.Prelude.{get_or, slice_index, slice_set}
 use Rattle.std.proofs.lemmas.List.{length-map}
 use Rattle.std.proofs.lemmas.Option.{slice_get-get_or}
 use Rattle.std.proofs.lemmas.Result.{IfErr-weaker, IfOk-weaker}
@@ -29,3 +29,43 @@ pub replay_function-requires-clause-well_formed : goal.replay_function-requires-
 replay_function-requires-clause-well_formed c =
     let l = c.index-lambdas-function.result in
     c.requires.complete.well_formed c.args.function l (slice_get-get_or c.args.lambdas.now c.args.function l c.requires.inside ∙ ap (λ k. Some k) (sym c.index-lambdas-function.is))
+
+pub returns-clause-right : goal.returns-clause-right
+returns-clause-right c =
+    let ls = c.args.lambdas.now in
+    let order = c.args.order.now in
+    let log = c.args.log.now in
+    let i = c.args.function in
+    let deps = call_lists order.deps.items in
+    let ks = lambdas_of (map arc_value c.args.made.now) in
+    let callees = lambdas_of (map arc_value c.deref-2.result.now) in
+    let ranked = c.orders_are_unique.ensures.ranked ls order.ranks.items deps c.requires.order in
+    let inside : i < length order.deps.items = omega (arith, c.requires.inside, ranked.deps_length, length-map order.deps.items (λ v. v.items)) in
+    let logged : i < length log = omega (arith, c.requires.inside, c.requires.logged) in
+    let row_is = row order.deps.items i c.index.result.now inside c.index.ensures ∙ sym c.deref.ensures.value in
+    let given = ap (λ xs. lambdas_of (map arc_value xs)) c.deref-2.ensures.value ∙ (c.in_ok-callees.ensures ∙ ap (lambdas_at ks) (sym row_is)) in
+    IfOk-weaker c.replay_function.result _ (λ k. AreRightUntil ls order.ranks.items deps log (slice_index order.ranks.items i) (i + 1) (slice_set ks i k))
+    (λ k h.
+    right-at ls order.ranks.items deps log c.requires.order ranked i c.requires.inside logged ks c.requires.before callees c.index-lambdas-function.result c.index-log-function.result given
+    c.index-lambdas-function.is c.index-log-function.is k h.0 h.1)
+    c.replay_function.ensures.right
+
+pub returns-clause-fault : goal.returns-clause-fault
+returns-clause-fault c =
+    let ls = c.args.lambdas.now in
+    let order = c.args.order.now in
+    let log = c.args.log.now in
+    let i = c.args.function in
+    let deps = call_lists order.deps.items in
+    let ks = lambdas_of (map arc_value c.args.made.now) in
+    let callees = lambdas_of (map arc_value c.deref-2.result.now) in
+    let ranked = c.orders_are_unique.ensures.ranked ls order.ranks.items deps c.requires.order in
+    let inside : i < length order.deps.items = omega (arith, c.requires.inside, ranked.deps_length, length-map order.deps.items (λ v. v.items)) in
+    let logged : i < length log = omega (arith, c.requires.inside, c.requires.logged) in
+    let row_is = row order.deps.items i c.index.result.now inside c.index.ensures ∙ sym c.deref.ensures.value in
+    let given = ap (λ xs. lambdas_of (map arc_value xs)) c.deref-2.ensures.value ∙ (c.in_ok-callees.ensures ∙ ap (lambdas_at ks) (sym row_is)) in
+    IfErr-weaker c.replay_function.result _ (λ e. IsReplayFault ls log e)
+    (λ e h.
+    wrong-at ls order.ranks.items deps log c.requires.order ranked i c.requires.inside logged ks c.requires.before callees c.index-lambdas-function.result c.index-log-function.result given
+    c.index-lambdas-function.is c.index-log-function.is e h)
+    c.replay_function.ensures.fault

@@ -1,7 +1,7 @@
 use Rattle.std.proofs.Common.{map}
 use Rattle.std.specs.Arc.{arc_value}
 use Rattle.g_pass_def.specs.Answers.{lambdas_of}
-use Rattle.log_replay.proofs.Made.{is-made, step-made}
+use Rattle.log_replay.proofs.Made.{step-made}
 use Rattle.log_replay.proofs.replayed.replayed.Goals as goal
 
 pub loop-index-preserved : goal.loop-index-preserved
@@ -9,6 +9,6 @@ loop-index-preserved c =
     record {
       made =
           step-made (lambdas_of (map arc_value c.args.callees.now)) c.args.steps.now c.args.lambda.now c.loop-index.changed c.step.new.lambda c.loop-index.index _ c.in_ok-step.field-0
-          c.loop-index-test.true c.loop-index.invariant.made c.in_ok-step.ensures.made (is-made c.in_ok-step.field-0 c.if-not-branch.false);
+          c.loop-index-test.true c.loop-index.invariant.made c.in_ok-step.ensures.made c.if-not-branch.false;
       well_formed = c.in_ok-step.ensures.kept;
     }
