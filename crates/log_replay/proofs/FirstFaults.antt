@@ -1,10 +1,9 @@
 -- A log has one fault at most, none where it is right, and makes one list.
-use Rattle.std.proofs.Common.{◌≡◌, ◌≢◌, ◌<◌, ◌≤◌, ◌⊎◌, ℕ, List, [], ◌∷◌, length, map, Some, slice_get, slice_index, slice_index_or, Contains, refl, sym, ap, subst, ◌∙◌, inl, inr, arith}
-use Rattle.std.specs.Prelude.{unwrap_or, get_or}
+use Rattle.std.proofs.Common.{◌≡◌, ◌≢◌, ◌<◌, ◌⊎◌, ℕ, List, [], length, Some, slice_get, slice_index, slice_index_or, Contains, refl, sym, ap, subst, ◌∙◌, inl, inr, arith}
+use Rattle.std.specs.Prelude.{unwrap_or}
 use Rattle.std.proofs.lemmas.Bool.{cases_eq, cases_lt}
 use Rattle.std.proofs.Math.ListN.{get_or-map}
 use Rattle.std.proofs.lemmas.Option.{slice_get-get_or, unwrap_or-slice_get}
-use Rattle.g_graph.specs.declared.steps.Step.{Step}
 use Rattle.g_graph.specs.Plain.{PlainLambda}
 use Rattle.g_pass_order.specs.Calls.{no_lambda, IsOrder}
 use Rattle.g_pass_order.specs.Laws.{IsRankedOrder, OrdersAreRanked, OrdersAreUnique}
@@ -15,7 +14,7 @@ use Rattle.g_pass_def.specs.Laws.{ReplayedAreUnique}
 use Rattle.g_pass_def.proofs.lemmas.Replayed.{same-at, same-replayed}
 use Rattle.g_pass.specs.Sweep.{rules}
 use Rattle.log_check.specs.Log.{PlainPart}
-use Rattle.log_replay.specs.Right.{no_part, part_at, steps_of, AreRight, AreRightUntil, IsRight, IsTaken}
+use Rattle.log_replay.specs.Right.{no_part, part_at, steps_of, AreRightUntil, IsRight, IsTaken}
 use Rattle.log_replay.specs.Fault.{IsFirstFault, IsFunctionFault, IsReplayFault}
 use Rattle.log_replay.specs.Laws.{OneReplayFault, RightAreUnique, RightHaveNoFault}
 use Rattle.log_replay.specs.declared.fault.ReplayFault.{ReplayFault}

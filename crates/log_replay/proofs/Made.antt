@@ -1,6 +1,6 @@
 -- One step more, and one callee more.
-use Rattle.std.proofs.Common.{◌≡◌, ◌≢◌, ◌<◌, ◌≤◌, ◌+◌, ◌-◌, ◌^◌, ℕ, zero, suc, Bool, true, false, List, [], ◌∷◌, ◌++◌, length, map, take, None, Some, slice_get, get_or, set, Vec, Global, refl, sym, ap, subst, ◌∙◌, arith}
-use Rattle.std.specs.Prelude.{min, option_and_then, Option, if◌then◌else◌, unwrap_or, option_map}
+use Rattle.std.proofs.Common.{◌≡◌, ◌<◌, ◌+◌, ℕ, zero, suc, Bool, true, List, [], ◌∷◌, ◌++◌, length, map, take, None, Some, slice_get, get_or, set, Vec, Global, sym, ap, subst, ◌∙◌, arith}
+use Rattle.std.specs.Prelude.{option_and_then, Option, if◌then◌else◌, unwrap_or, option_map}
 use Rattle.std.proofs.lemmas.List.{get_or-map, map-append, map-set, take_more}
 use Rattle.std.proofs.lemmas.Option.{slice_get-get_or, slice_get-map}
 use Rattle.std.specs.Arc.{arc_value}
@@ -13,7 +13,6 @@ use Rattle.g_pass_def.specs.Answers.{lambda_of, lambdas_of}
 use Rattle.g_pass_def.specs.Sweep.{replayed}
 use Rattle.g_pass_def.specs.Replayed.{lambdas_at}
 use Rattle.g_pass.specs.Sweep.{rules}
-use Rattle.log_replay.specs.Fault.{StopsAfter, IsStepFault}
 
 -- ---- steps
 
@@ -41,22 +40,6 @@ step-made callees steps l k j n d made inside so_far step applied =
     let at : rules.step s.rule callees s.node k ≡ Some j = step ∙ ap (λ (b : Bool). if b then Some j else None) applied in
     let next_number : suc n ≡ n + 1 = omega arith in
     subst (λ m. replayed rules callees (take m steps) l ≡ Some j) next_number (one-more callees steps l k j n s so_far (slice_get-get_or steps n d inside) at)
-
-pub step-stops : (callees : List PlainLambda) (steps : List Step) (l k j : PlainLambda) (n line : ℕ) (d : Step) (made : Bool) → n < length steps → replayed rules callees (take n steps) l ≡ Some k →
-    rules.step (get_or steps n d).rule callees (get_or steps n d).node k ≡ (if made then Some j else None) → made ≡ false → IsStepFault callees steps l line (line + 1 + n)
-step-stops callees steps l k j n line d made inside so_far step stopped =
-    let s = get_or steps n d in
-    record {
-      index = n;
-      line_is = omega arith;
-      after = record {
-        lambda = k;
-        step = s;
-        made = so_far;
-        next = slice_get-get_or steps n d inside;
-        stops = step ∙ ap (λ (b : Bool). if b then Some j else None) stopped;
-      };
-    }
 
 -- ---- callees
 
@@ -87,12 +70,3 @@ pub written : (made : List (Arc PlainOptimised Global)) (i : ℕ) (x : Arc Plain
     lambdas_of (map arc_value (set made i x)) ≡ set (lambdas_of (map arc_value made)) i (arc_value x).lambda
 written made i x =
     ap lambdas_of (map-set arc_value made i x) ∙ map-set (λ (o : PlainOptimised). o.lambda) (map arc_value made) i (arc_value x)
-
--- ---- counts
-
--- a count of 32 bits is that of a lambda where it is the saturated one
-pub is-count : (count values : ℕ) → count < 2 ^ 32 → min values (2 ^ 64 - 1) ≡ count → count ≡ values
-is-count count values small e = omega (arith, small, e)
-
-pub is-another : (count values : ℕ) → (min values (2 ^ 64 - 1) ≡ count → ⊥) → count < 2 ^ 32 → count ≢ values
-is-another count values other small e = other (omega (arith, small, e))

@@ -1,5 +1,5 @@
 -- A function has one fault at most, and none where what the log says of it is right.
-use Rattle.std.proofs.Common.{◌≡◌, ◌≢◌, ◌<◌, ◌≤◌, ◌⊎◌, ◌+◌, ℕ, zero, suc, List, [], ◌∷◌, length, take, None, Some, slice_get, refl, sym, ap, subst, ◌∙◌, inl, inr, arith}
+use Rattle.std.proofs.Common.{◌≡◌, ◌≢◌, ◌<◌, ◌+◌, ℕ, zero, suc, List, [], ◌∷◌, length, take, None, Some, slice_get, refl, sym, ap, subst, ◌∙◌, inl, inr, arith}
 use Rattle.std.specs.Prelude.{option_and_then, Option}
 use Rattle.std.proofs.lemmas.Bool.{cases_eq, cases_lt}
 use Rattle.std.proofs.lemmas.Option.{slice_get_within}
@@ -11,7 +11,7 @@ use Rattle.g_pass_def.specs.Sweep.{replayed}
 use Rattle.g_pass.specs.Sweep.{rules}
 use Rattle.log_check.specs.Log.{PlainPart}
 use Rattle.log_replay.specs.Right.{HasCounts}
-use Rattle.log_replay.specs.Fault.{StopsAfter, IsStepFault, CountsAnother, IsFunctionFault}
+use Rattle.log_replay.specs.Fault.{StopsAfter, IsFunctionFault}
 use Rattle.log_replay.specs.declared.fault.ReplayFault.{ReplayFault}
 use Rattle.log_replay.specs.declared.fault.ReplayFault.TheVariants.{BadCount, BadStep, NoMemory}
 

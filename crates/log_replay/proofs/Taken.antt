@@ -1,5 +1,5 @@
 -- What is right of the functions so far, as functions are taken.
-use Rattle.std.proofs.Common.{◌≡◌, ◌≢◌, ◌<◌, ◌≤◌, ◌⊎◌, ◌+◌, ℕ, suc, List, [], length, Some, slice_get, slice_index, slice_index_or, Contains, refl, sym, ap, subst, ◌∙◌, inl, inr, arith}
+use Rattle.std.proofs.Common.{◌≡◌, ◌≢◌, ◌<◌, ◌≤◌, ◌+◌, ℕ, List, [], length, Some, slice_get, slice_index, slice_index_or, sym, ap, subst, ◌∙◌, inl, inr, arith}
 use Rattle.std.specs.Prelude.{get_or, slice_set, unwrap_or}
 use Rattle.std.proofs.lemmas.Bool.{cases_eq}
 use Rattle.std.proofs.lemmas.List.{get_or_default, length-set}
@@ -9,13 +9,13 @@ use Rattle.g_pass_order.specs.Calls.{no_lambda, IsOrder}
 use Rattle.g_pass_order.specs.Laws.{IsRankedOrder}
 use Rattle.g_pass_def.specs.Answers.{lambda_of}
 use Rattle.g_pass_def.specs.Sweep.{replayed}
-use Rattle.g_pass_def.specs.Replayed.{lambdas_at, AreReplayed}
+use Rattle.g_pass_def.specs.Replayed.{lambdas_at}
 use Rattle.g_pass_def.proofs.lemmas.Replayed.{same-at}
 use Rattle.g_pass.specs.Sweep.{rules}
 use Rattle.r_edit.proofs.lemmas.Steps.{set-there, set-elsewhere}
 use Rattle.log_check.specs.Log.{PlainPart}
 use Rattle.log_replay.specs.Right.{no_part, part_at, steps_of, AreRight, AreRightUntil, HasCounts, IsRight, IsTaken}
-use Rattle.log_replay.specs.Fault.{IsFirstFault, IsFunctionFault, IsReplayFault}
+use Rattle.log_replay.specs.Fault.{IsFunctionFault, IsReplayFault}
 use Rattle.log_replay.specs.declared.fault.ReplayFault.{ReplayFault}
 use Rattle.log_replay.specs.declared.fault.ReplayFault.TheVariants.{BadCount, BadStep, NoMemory}
 use Rattle.log_replay.proofs.FirstFaults.{steps-at, some-at}

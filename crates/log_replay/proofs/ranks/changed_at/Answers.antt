@@ -1,11 +1,11 @@
-use Rattle.std.proofs.Common.{◌≡◌, ◌<◌, ◌+◌, List, [], ℕ, length, map, Some, Contains, refl, sym, ap, subst, ◌∙◌, arith}
-use Rattle.std.specs.Prelude.{get_or, slice_index, slice_set}
+use Rattle.std.proofs.Common.{◌<◌, ◌+◌, List, ℕ, length, map, Some, Contains, sym, ap, subst, ◌∙◌, arith}
+use Rattle.std.specs.Prelude.{slice_index, slice_set}
 use Rattle.std.proofs.lemmas.List.{length-map}
 use Rattle.std.proofs.lemmas.Option.{slice_get-get_or}
 use Rattle.std.proofs.lemmas.Result.{IfErr-weaker, IfOk-weaker}
 use Rattle.std.specs.Arc.{arc_value}
 use Rattle.call_order.specs.Units.{call_lists}
-use Rattle.g_graph.specs.Plain.{PlainLambda, PlainOptimised}
+use Rattle.g_graph.specs.Plain.{PlainOptimised}
 use Rattle.g_pass_def.specs.Answers.{lambdas_of}
 use Rattle.g_pass_def.specs.Replayed.{lambdas_at}
 use Rattle.log_replay.specs.Right.{AreRightUntil}
@@ -13,6 +13,12 @@ use Rattle.log_replay.specs.Fault.{IsReplayFault}
 use Rattle.log_replay.proofs.Made.{row}
 use Rattle.log_replay.proofs.Taken.{right-at, wrong-at}
 use Rattle.log_replay.proofs.ranks.changed_at.Goals as goal
+
+pub index-requires : goal.index-requires
+index-requires c =
+    let order = c.args.order.now in
+    let ranked = c.orders_are_unique.ensures.ranked c.args.lambdas.now order.ranks.items (call_lists order.deps.items) c.requires.order in
+    omega (arith, c.requires.inside, ranked.deps_length, length-map order.deps.items (λ v. v.items), order.deps.ok.0)
 
 pub callees_of-requires : goal.callees_of-requires
 callees_of-requires c d has =
