@@ -107,7 +107,8 @@ fn replay_rank(
     requires short { (j : ℕ) → j < length log.now
         → (part_at log.now j).line + length (part_at log.now j).steps < 2 ^ 32 }
     requires before { AreRightUntil lambdas.now order.now.ranks.items
-        (call_lists order.now.deps.items) log.now rank 0 (lambdas_of (map arc_value made.old.items)) }
+        (call_lists order.now.deps.items) log.now rank 0
+        (lambdas_of (map arc_value made.old.items)) }
     ensures right { OnOk result (AreRightUntil lambdas.now order.now.ranks.items
         (call_lists order.now.deps.items) log.now (rank + 1) 0
         (lambdas_of (map arc_value made.new.items))) }

@@ -26,7 +26,8 @@ pub fn replayed(
     requires well_formed { IsWellFormed lambda.now }
     requires short { line + length steps.now < 2 ^ 32 }
     ensures made { IfOk result (λ changed.
-        replayed rules (lambdas_of (map arc_value callees.now)) steps.now lambda.now ≡ Some changed) }
+        replayed rules (lambdas_of (map arc_value callees.now)) steps.now lambda.now
+        ≡ Some changed) }
     ensures well_formed { IfOk result (λ changed. IsWellFormed changed) }
     ensures fault { IfErr result (λ e.
         StepsFail (lambdas_of (map arc_value callees.now)) steps.now lambda.now line e) }
