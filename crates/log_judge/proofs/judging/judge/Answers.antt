@@ -6,11 +6,6 @@ use Rattle.log_replay.specs.Right.{steps_of}
 use Rattle.log_judge.proofs.Told.{keeps, of-log, of-source}
 use Rattle.log_judge.proofs.judging.judge.Goals as goal
 
-pub returns-in_err-typed-clause-fault : goal.returns-in_err-typed-clause-fault
-returns-in_err-typed-clause-fault c =
-    let p = err_from_is_err_and c.from_residual.result c.from_residual.ensures.1 in
-    rw (p.1, p.2) (of-source c.in_err-typed.field-0.0 c.args.source.now c.args.log.now c.args.image.now c.in_err-typed.ensures.refused)
-
 pub returns-clause-certified : goal.returns-clause-certified
 returns-clause-certified c =
     let p = c.in_ok-typed.typed in
@@ -21,8 +16,3 @@ returns-clause-certified c =
     let kept = c.replayed_keep_lists.ensures.kept rules c.rules_are_steps.ensures (graph p) (steps_of h.functions) h.lambdas own.program.complete h.right.replayed in
     keeps c.args.source.now c.args.log.now c.args.image.now p told.accepted h (c.kept_lists_keep_meaning.ensures c.args.source.now ? p told.accepted h.lambdas kept))
     c.judge_typed-judged.ensures.certified
-
-pub returns-clause-fault : goal.returns-clause-fault
-returns-clause-fault c =
-    IfErr-weaker c.judge_typed-judged.result _ _ (λ e h. of-log e c.args.source.now c.args.log.now c.args.image.now c.in_ok-typed.typed c.in_ok-typed.ensures.accepted h)
-    c.judge_typed-judged.ensures.fault
