@@ -1,5 +1,5 @@
 -- What contracts see of a session, what is kept in it, and what an edit does to it.
-use Rattle.std.specs.Prelude.{◌≡◌, ℕ, Option, None, Some, List, refl}
+use Rattle.std.specs.Prelude.{◌≡◌, ℕ, Option, None, Some, List, [], refl}
 use Rattle.std.specs.Coded.{Coded, code_by, coded×, coded_list, coded_option, coded_ℕ}
 use Rattle.g_graph.specs.declared.steps.Rule.{Rule}
 use Rattle.g_graph.specs.contracts.steps.Rule as rule
@@ -37,6 +37,19 @@ coded_kept =
     code_by (List ℕ × (List PlainLambda × (List (List ℕ) × List PlainOptimised)))
     (coded× (coded_list coded_ℕ) (coded× (coded_list coded_lambda) (coded× (coded_list (coded_list coded_ℕ)) (coded_list coded_optimised))))
     (λ k. (k.source, (k.lambdas, (k.deps, k.answers)))) (λ p. record { source = p.0; lambdas = p.1.0; deps = p.1.1.0; answers = p.1.1.1 }) (λ _. refl)
+
+-- the lambdas, deps and answers that are kept; none where there was no rebuild
+abbrev pub lambdas_of : Option PlainKept → List PlainLambda
+lambdas_of None = []
+lambdas_of (Some k) = k.lambdas
+
+abbrev pub deps_of : Option PlainKept → List (List ℕ)
+deps_of None = []
+deps_of (Some k) = k.deps
+
+abbrev pub answers_of : Option PlainKept → List PlainOptimised
+answers_of None = []
+answers_of (Some k) = k.answers
 
 -- what is kept is what the recipe made of the source
 pub record IsKept (recipe : List Rule) (kept : PlainKept) : Type 0 where

@@ -8,7 +8,7 @@ ghost use Rattle.g_build.specs.Passed.{limit_passed};
 ghost use Rattle.cc_session.specs.Session.{IsSession};
 ghost use Rattle.cc_session.specs.Rebuilds.{IsRebuiltFrom};
 
-use crate::kept::Kept;
+use crate::kept::{Kept, answers_of, deps_of, lambdas_of};
 use board_work::Gate;
 use c_typed::Typed;
 use cc_compile::file_with;
@@ -82,38 +82,24 @@ pub(crate) fn rebuilt<H: Threads + Wait + Sync, G: Gate>(
     answers_can_be_emitted();
     let graph = graph_of(alloc, now.typed())?;
     let order = order(alloc, &graph.lambdas)?;
-    let (stale, answers) = match last {
-        Some(kept) => {
-            let stale = stale(alloc, &kept.lambdas, &kept.deps, &graph.lambdas, &order)?;
-            let answers = renewed(
-                rt,
-                alloc,
-                &graph.lambdas,
-                recipe,
-                &order,
-                &stale,
-                &kept.answers,
-                workers,
-                gate,
-            )?;
-            (stale, answers)
-        }
-        None => {
-            let stale = stale(alloc, &[], &[], &graph.lambdas, &order)?;
-            let answers = renewed(
-                rt,
-                alloc,
-                &graph.lambdas,
-                recipe,
-                &order,
-                &stale,
-                &[],
-                workers,
-                gate,
-            )?;
-            (stale, answers)
-        }
-    };
+    let stale = stale(
+        alloc,
+        lambdas_of(last),
+        deps_of(last),
+        &graph.lambdas,
+        &order,
+    )?;
+    let answers = renewed(
+        rt,
+        alloc,
+        &graph.lambdas,
+        recipe,
+        &order,
+        &stale,
+        answers_of(last),
+        workers,
+        gate,
+    )?;
     let image = file_with(alloc, &graph, &answers)?;
     let source = Vec::from_slice(alloc, now.source())?;
     let jobs = count_of(&stale);
