@@ -1,2 +1,2 @@
-mod Renewed
+mod WholeList
 mod OneJob

@@ -1,4 +1,6 @@
 use Rattle.std.proofs.Common.{◌≡◌, [], ℕ, List, Vec, Global, length, map, slice_index_or, sym, ap, subst, ◌∙◌, arith}
+use Rattle.std.proofs.Crossing.{crosses}
+use denote.Param.Send.{sendable}
 use Rattle.std.specs.Arc.{arc_value}
 use Rattle.std.proofs.lemmas.List.{length-map}
 use Rattle.std.proofs.lemmas.Result.{IfOk-weaker}
@@ -12,7 +14,7 @@ use Rattle.g_pass.specs.Sweep.{rules}
 use Rattle.g_pass_jobs.specs.Renewal.{functions_of, renewal, stale_jobs}
 use Rattle.g_pass_jobs.proofs.lemmas.Answers.{small-ranked}
 use Rattle.g_pass_jobs.proofs.lemmas.Functions.{few-functions}
-use Rattle.g_pass_renew.proofs.Renewed.{none-stale, same-program}
+use Rattle.g_pass_renew.proofs.WholeList.{none-stale, same-program}
 use Rattle.g_pass_renew.proofs.renewal.answers_of_stale.Goals as goal
 
 pub returns-then-is_done : goal.returns-then-is_done
@@ -21,11 +23,11 @@ returns-then-is_done g c =
     none-stale (program rules work.recipe work.lambdas c.args.ranks.now work.deps c.args.workers) work.stale work.kept (map arc_value c.new.result.items) (c.is_done.ensures.0 c.if-is_done.true)
     (ap (map arc_value) c.new.ensures.items)
 
-pub ranks-own_ranks-requires : goal.ranks-own_ranks-requires
-ranks-own_ranks-requires g c = c.requires.ranked.counted ∙ c.requires.all
+pub ranks-requires : goal.ranks-requires
+ranks-requires g c = c.requires.ranked.counted ∙ c.requires.all
 
-pub deps-own_deps-requires-clause-known : goal.deps-own_deps-requires-clause-known
-deps-own_deps-requires-clause-known g c = c.requires.ranked.known
+pub deps-requires-clause-known : goal.deps-requires-clause-known
+deps-requires-clause-known g c = c.requires.ranked.known
 
 pub do_jobs_by_workers-requires-clause-jobs : goal.do_jobs_by_workers-requires-clause-jobs
 do_jobs_by_workers-requires-clause-jobs g c κs within =
@@ -65,3 +67,9 @@ returns g c =
     (ap dep_lists c.deref-2.ensures.value ∙ c.in_ok-own_deps.ensures) in
     IfOk-weaker c.do_jobs_by_workers.result _ (λ given. AreResults (renewal p work.stale work.kept) (map arc_value given.items))
     (λ given are. subst (λ (q : Program PlainOptimised). AreResults q (map arc_value given.items)) same are) c.do_jobs_by_workers.ensures
+
+pub do_jobs_by_workers-requires-send-W : goal.do_jobs_by_workers-requires-send-W
+do_jobs_by_workers-requires-send-W g c κs within = search (sendable, crosses) depth 60 fits 50000
+
+pub do_jobs_by_workers-requires-sync-W : goal.do_jobs_by_workers-requires-sync-W
+do_jobs_by_workers-requires-sync-W g c κs within = search (sendable, crosses) depth 60 fits 50000

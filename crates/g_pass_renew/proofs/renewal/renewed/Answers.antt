@@ -12,11 +12,11 @@ use Rattle.g_pass_def.specs.Answers.{program, AreAnswers}
 use Rattle.g_pass.specs.Sweep.{rules}
 use Rattle.g_pass_jobs.specs.Renewal.{merged, renewal}
 use Rattle.g_pass_renew.specs.Jobs.{Jobs}
-use Rattle.g_pass_renew.proofs.Renewed.{answered, are-ranked}
+use Rattle.g_pass_renew.proofs.WholeList.{answered, are-ranked}
 use Rattle.g_pass_renew.proofs.renewal.renewed.Goals as goal
 
-pub functions_of-functions-requires : goal.functions_of-functions-requires
-functions_of-functions-requires g c = omega (arith, c.requires.kept.are_stale.count, c.requires.few)
+pub functions_of-requires : goal.functions_of-requires
+functions_of-requires g c = omega (arith, c.requires.kept.are_stale.count, c.requires.few)
 
 pub new-work-requires : goal.new-work-requires
 new-work-requires g c =
@@ -31,12 +31,12 @@ new-work-requires g c =
       small = c.requires.small;
     }
 
-pub answers_of_stale-given-requires-clause-few : goal.answers_of_stale-given-requires-clause-few
-answers_of_stale-given-requires-clause-few g c κs within =
+pub answers_of_stale-requires-clause-few : goal.answers_of_stale-requires-clause-few
+answers_of_stale-requires-clause-few g c κs within =
     omega (arith, ap (λ (w : Jobs). length w.stale) c.new-work.ensures, c.requires.kept.are_stale.count, c.requires.few)
 
-pub answers_of_stale-given-requires-clause-all : goal.answers_of_stale-given-requires-clause-all
-answers_of_stale-given-requires-clause-all g c κs within =
+pub answers_of_stale-requires-clause-all : goal.answers_of_stale-requires-clause-all
+answers_of_stale-requires-clause-all g c κs within =
     let order = c.args.order.now in
     let deps = order.deps.items in
     let ranked = c.orders_are_unique.ensures.ranked c.args.lambdas.now order.ranks.items (call_lists deps) c.requires.order in
@@ -44,8 +44,8 @@ answers_of_stale-given-requires-clause-all g c κs within =
     ∙ (ap (λ (xs : List (Vec ℕ Global)). length (call_lists xs)) c.deref-2.ensures.value
     ∙ (ranked.deps_length ∙ (sym c.requires.kept.are_stale.count ∙ ap (λ (w : Jobs). length w.stale) (sym c.new-work.ensures))))
 
-pub answers_of_stale-given-requires-clause-ranked : goal.answers_of_stale-given-requires-clause-ranked
-answers_of_stale-given-requires-clause-ranked g c κs within =
+pub answers_of_stale-requires-clause-ranked : goal.answers_of_stale-requires-clause-ranked
+answers_of_stale-requires-clause-ranked g c κs within =
     let order = c.args.order.now in
     let ls = c.args.lambdas.now in
     let recipe = c.args.recipe.now in
@@ -58,8 +58,8 @@ answers_of_stale-given-requires-clause-ranked g c κs within =
     (subst (λ (ds : List (Vec ℕ Global)). IsRanked (program rules recipe ls c.deref-3.result.now (call_lists ds) c.args.workers)) (sym c.deref-2.ensures.value)
     (subst (λ (rs : List ℕ). IsRanked (program rules recipe ls rs deps c.args.workers)) (sym c.deref-3.ensures.value) ranked))
 
-pub first_functions-all-requires : goal.first_functions-all-requires
-first_functions-all-requires g c = omega (arith, c.requires.kept.are_stale.count, c.requires.few)
+pub first_functions-requires : goal.first_functions-requires
+first_functions-requires g c = omega (arith, c.requires.kept.are_stale.count, c.requires.few)
 
 pub returns : goal.returns
 returns g c =

@@ -8,8 +8,8 @@ use Rattle.g_pass_renew.specs.Jobs.{Jobs}
 use Rattle.g_pass_renew.proofs.OneJob.{known}
 use Rattle.g_pass_renew.proofs.jobs.StaleJobs.deps.Goals as goal
 
-pub jobs_of-jobs-requires : goal.jobs_of-jobs-requires
-jobs_of-jobs-requires c = omega (arith, c.requires.few, ap (λ (w : Jobs). length w.stale) c.self.view_is)
+pub jobs_of-requires : goal.jobs_of-requires
+jobs_of-requires c = omega (arith, c.requires.few, ap (λ (w : Jobs). length w.stale) c.self.view_is)
 
 pub deps_of-requires-clause-jobs : goal.deps_of-requires-clause-jobs
 deps_of-requires-clause-jobs c = c.deref.ensures.value ∙ c.in_ok-jobs.ensures

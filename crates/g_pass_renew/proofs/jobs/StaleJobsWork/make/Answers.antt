@@ -41,7 +41,7 @@ optimise-requires-clause-small c =
     let f = slice_index fields.functions.now c.args.job in
     let x = c.index-lambdas-function.result in
     let here = slice_get_read ls (length ls) f x refl (function-inside ls fields.functions.now fields.stale.now (call_lists fields.deps.now) c.self.invariant c.args.job low) c.index-lambdas-function.is in
-    subst (λ (l : PlainLambda). lambda_values l < 2 ^ 32) (sym (c.in_ok-lambda.ensures ∙ sym c.index-lambdas-function.is)) (c.self.invariant.small f x here)
+    subst (λ (l : PlainLambda). lambda_values l < 2 ^ 32) (sym c.in_ok-lambda.ensures) (c.self.invariant.small f x here)
 
 pub optimise-requires-clause-well_formed : goal.optimise-requires-clause-well_formed
 optimise-requires-clause-well_formed c =
@@ -51,7 +51,7 @@ optimise-requires-clause-well_formed c =
     let f = slice_index fields.functions.now c.args.job in
     let x = c.index-lambdas-function.result in
     let here = slice_get_read ls (length ls) f x refl (function-inside ls fields.functions.now fields.stale.now (call_lists fields.deps.now) c.self.invariant c.args.job low) c.index-lambdas-function.is in
-    subst (λ (l : PlainLambda). IsWellFormed l) (sym (c.in_ok-lambda.ensures ∙ sym c.index-lambdas-function.is)) (c.self.invariant.well_formed f x here)
+    subst (λ (l : PlainLambda). IsWellFormed l) (sym c.in_ok-lambda.ensures) (c.self.invariant.well_formed f x here)
 
 pub returns : goal.returns
 returns c =
@@ -65,7 +65,7 @@ returns c =
     let y = c.index-all_deps-function.result in
     let there = has-deps ls fields.functions.now fields.stale.now deps c.self.invariant c.args.job low in
     let here = slice_get_read ls (length ls) f x refl (function-inside ls fields.functions.now fields.stale.now deps c.self.invariant c.args.job low) c.index-lambdas-function.is in
-    let lambda = c.in_ok-lambda.ensures ∙ (sym c.index-lambdas-function.is ∙ ap (λ o. unwrap_or o no_lambda) (sym here)) in
+    let lambda = c.in_ok-lambda.ensures ∙ ap (λ o. unwrap_or o no_lambda) (sym here) in
     let own = c.as_slice-deps.ensures.value ∙ (ap items c.index-all_deps-function.is ∙ sym (get_or-map items fields.deps.now f y [] (omega (arith, there, length-map fields.deps.now items)))) in
     let answers = ap (map arc_value) c.deref.ensures.value ∙ c.in_ok-answers.ensures in
     let same =
