@@ -15,16 +15,74 @@ pub const DEFAULT: &str = "iln,fold,inv,cne,dne,ivt,psh,pll,url,fold,cne,inv,dne
 pub struct Left {
     /// The exit status.
     pub status: u8,
-    /// The files by name.
-    pub files: MemFiles,
+    /// The bytes of the file `out`, if it is there.
+    pub out: Option<Vec<u8>>,
     /// What was written on the output.
-    pub output: MemSink,
+    pub output: Vec<u8>,
     /// What was reported.
-    pub report: MemSink,
+    pub report: Vec<u8>,
+}
+
+impl Left {
+    /// Whether `out` is not there or has the first bytes of this image.
+    pub fn is_front_of(&self, image: &[u8]) -> bool {
+        match &self.out {
+            Some(out) => image.starts_with(out.as_slice()),
+            None => true,
+        }
+    }
+
+    /// How many bytes the file `out` has, if it is there.
+    pub fn out_len(&self) -> Option<usize> {
+        match &self.out {
+            Some(out) => Some(out.len()),
+            None => None,
+        }
+    }
 }
 
 /// The calls that fail, where none does.
 pub const NONE: [&[u64]; 4] = [&[], &[], &[], &[]];
+
+fn arguments_of(alloc: Global, words: &[&str]) -> Result<Vec<String>, AllocError> {
+    let mut arguments = Vec::new(alloc);
+    for word in words {
+        arguments.push(String::from_str(alloc, word)?)?;
+    }
+    Ok(arguments)
+}
+
+fn files_of(
+    alloc: Global,
+    (name, bytes): (&str, &[u8]),
+    failing: &[u64],
+) -> Result<MemFiles, AllocError> {
+    let bytes = bytes.to_vec(alloc)?;
+    let mut files = MemFiles::new(alloc, failing.to_vec(alloc)?);
+    files.insert(name, bytes)?;
+    Ok(files)
+}
+
+fn left_of(
+    alloc: Global,
+    status: u8,
+    files: &MemFiles,
+    output: &MemSink,
+    report: &MemSink,
+) -> Result<Left, AllocError> {
+    let out = match files.get("out") {
+        Some(bytes) => Some(bytes.to_vec(alloc)?),
+        None => None,
+    };
+    let output = output.bytes().to_vec(alloc)?;
+    let report = report.bytes().to_vec(alloc)?;
+    Ok(Left {
+        status,
+        out,
+        output,
+        report,
+    })
+}
 
 /// Calls `top` with these arguments on a file of this name and these bytes, through this gate, and
 /// with these watchers. The numbered calls on the files, the input, the output and the report, in
@@ -39,16 +97,16 @@ pub fn called_through<G: Gate>(
     gate: &G,
     watchers: &mut Vec<Box<dyn Watcher>>,
 ) -> Result<Left, AllocError> {
-    let mut arguments = Vec::new(alloc);
-    for word in words {
-        arguments.push(String::from_str(alloc, word)?)?;
-    }
-    let (name, bytes) = file;
-    let mut files = MemFiles::new(alloc, failing[0].to_vec(alloc)?);
-    files.insert(name, bytes.to_vec(alloc)?)?;
-    let mut input = MemSource::new(input.to_vec(alloc)?, failing[1].to_vec(alloc)?);
-    let mut output = MemSink::new(alloc, failing[2].to_vec(alloc)?);
-    let mut report = MemSink::new(alloc, failing[3].to_vec(alloc)?);
+    // Nothing wide is held where memory may run out.
+    let arguments = arguments_of(alloc, words)?;
+    let input = input.to_vec(alloc)?;
+    let of_input = failing[1].to_vec(alloc)?;
+    let of_output = failing[2].to_vec(alloc)?;
+    let of_report = failing[3].to_vec(alloc)?;
+    let mut files = files_of(alloc, file, failing[0])?;
+    let mut input = MemSource::new(input, of_input);
+    let mut output = MemSink::new(alloc, of_output);
+    let mut report = MemSink::new(alloc, of_report);
     let status = top(
         rt,
         alloc,
@@ -60,12 +118,12 @@ pub fn called_through<G: Gate>(
         gate,
         watchers,
     );
-    Ok(Left {
-        status,
-        files,
-        output,
-        report,
-    })
+    let left = left_of(alloc, status, &files, &output, &report);
+    drop(files);
+    drop(input);
+    drop(output);
+    drop(report);
+    left
 }
 
 /// Calls `top` with these arguments on a file of this name and these bytes, without watchers. The
@@ -143,10 +201,13 @@ pub fn image_by(
         workers,
     ];
     let left = called_on_source(rt, alloc, &words, source, &[])?;
-    if left.status != 0 || !left.report.bytes().is_empty() {
-        return Ok(Vec::new(alloc));
-    }
-    left.files.get("out").unwrap_or(b"").to_vec(alloc)
+    let is_done = left.status == 0 && left.report.is_empty();
+    let image = match &left.out {
+        Some(image) if is_done => image.to_vec(alloc),
+        _ => Ok(Vec::new(alloc)),
+    };
+    drop(left);
+    image
 }
 
 /// Each call on the files of a build whose image has 8,200 bytes, and one more, which is not made:
@@ -165,9 +226,8 @@ pub const FAILING_CALLS: [(u64, u8, &[u8], Option<usize>); 8] = [
 
 /// Whether a build left this status, this report, and so many bytes of this image as OUT.
 pub fn is_left(left: &Left, status: u8, report: &[u8], image: &[u8], len: Option<usize>) -> bool {
-    let out = left.files.get("out");
     left.status == status
-        && left.report.bytes() == report
-        && out.map(|held| held.len()) == len
-        && image.starts_with(out.unwrap_or(b""))
+        && left.report.as_slice() == report
+        && left.out_len() == len
+        && left.is_front_of(image)
 }

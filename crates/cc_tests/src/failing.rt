@@ -93,13 +93,9 @@ fn failing_calls_have_their_status(rt: HostRuntime) -> Result<(), Fail> {
         let (words, input, failing, status, output, report, len) = *row;
         let left = called_on_image(&rt, alloc, words, &image, input, failing)?;
         assert_eq!(rt; left.status, status, "row {k}");
-        assert_eq!(rt; left.output.bytes(), output, "row {k}");
-        assert_eq!(rt; left.report.bytes(), report, "row {k}");
-        assert_eq!(rt;
-            left.files.get("out").map(|held| held.len()),
-            len,
-            "row {k}"
-        );
+        assert_eq!(rt; left.output.as_slice(), output, "row {k}");
+        assert_eq!(rt; left.report.as_slice(), report, "row {k}");
+        assert_eq!(rt; left.out_len(), len, "row {k}");
     }
     Ok(())
 }

@@ -19,4 +19,5 @@ mod sources;
 mod texts;
 #[cfg(test)]
 mod watched;
-pub mod watching;
+#[cfg(test)]
+mod watching;

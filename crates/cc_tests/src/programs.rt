@@ -39,8 +39,8 @@ fn is_run(
         two.as_slice() == image.as_slice()
             && most.as_slice() == image.as_slice()
             && left.status == 0
-            && left.output.bytes() == output
-            && left.report.bytes() == report,
+            && left.output.as_slice() == output
+            && left.report.as_slice() == report,
     )
 }
 

@@ -44,9 +44,9 @@ fn is_refused(
     let left = called(rt, alloc, words, ("in", source), source, NONE)?;
     Ok(
         left.status == 4
-            && left.report.bytes() == line
-            && left.output.bytes().is_empty()
-            && left.files.get("out").is_none(),
+            && left.report.as_slice() == line
+            && left.output.as_slice().is_empty()
+            && left.out.is_none(),
     )
 }
 

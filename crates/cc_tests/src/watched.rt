@@ -1,7 +1,7 @@
 //! What is reported to watchers, and builds with a report in which calls fail.
 use crate::calls::{FAILING_CALLS, Left, called_through, image_by, is_left};
 use crate::sources::{DIAMOND, PRODUCT};
-use crate::watching::{Label, Watching};
+use crate::watching::Watching;
 use board_work::OpenGate;
 use c_lex::Name;
 use cc_watch::{Counter, LogKeeper, Row, StepList, Watcher};
@@ -17,7 +17,7 @@ use std::thread::Threads;
 #[derive(Clone, Copy)]
 enum Kind {
     Counts,
-    Keeps(Label, u32, bool),
+    Keeps(&'static str, u32, bool),
 }
 
 /// A build of a case: its source and recipe, its other options, and which calls on the files fail;
@@ -47,7 +47,7 @@ const PLAIN: Build = (DIAMOND, "iln", &[], &[], 0, b"", true);
 const CASES: [Case; 6] = [
     // Watchers keep what they held.
     Case {
-        watchers: &[Kind::Keeps(Label::A, 9, true), Kind::Counts],
+        watchers: &[Kind::Keeps("a", 9, true), Kind::Counts],
         builds: &[(PRODUCT, "none", &[], &[], 0, b"", true), PLAIN],
         texts: Some(
             b"function main 12 12\nfunction d 11 11\nfunction b 15 15\niln 0\nfunction c 15 15\n\
@@ -59,9 +59,9 @@ const CASES: [Case; 6] = [
     // The first of a name reports: the second one would refuse its text.
     Case {
         watchers: &[
-            Kind::Keeps(Label::B, 9, false),
-            Kind::Keeps(Label::A, 9, true),
-            Kind::Keeps(Label::A, 9, false),
+            Kind::Keeps("b", 9, false),
+            Kind::Keeps("a", 9, true),
+            Kind::Keeps("a", 9, false),
         ],
         builds: &[
             (PRODUCT, "none", &[], &[], 0, b"", true),
@@ -98,9 +98,9 @@ const CASES: [Case; 6] = [
     // A watcher refuses a row: the first has three rows, the other two have two.
     Case {
         watchers: &[
-            Kind::Keeps(Label::A, 9, true),
-            Kind::Keeps(Label::B, 2, true),
-            Kind::Keeps(Label::C, 9, true),
+            Kind::Keeps("a", 9, true),
+            Kind::Keeps("b", 2, true),
+            Kind::Keeps("c", 9, true),
         ],
         builds: &[(DIAMOND, "iln", &[], &[], 6, b"memory\n", false)],
         texts: Some(
@@ -111,10 +111,7 @@ const CASES: [Case; 6] = [
     },
     // A watcher refuses its text.
     Case {
-        watchers: &[
-            Kind::Keeps(Label::A, 9, true),
-            Kind::Keeps(Label::B, 9, false),
-        ],
+        watchers: &[Kind::Keeps("a", 9, true), Kind::Keeps("b", 9, false)],
         builds: &[
             PLAIN,
             (
@@ -131,7 +128,7 @@ const CASES: [Case; 6] = [
     },
     // A source that is refused or not read is not reported.
     Case {
-        watchers: &[Kind::Keeps(Label::A, 9, true)],
+        watchers: &[Kind::Keeps("a", 9, true)],
         builds: &[
             (
                 b"",
@@ -212,12 +209,13 @@ fn is_built(
     let options = (recipe, workers, options);
     let left = built(rt, alloc, options, source, [failing, &[]], watchers)?;
     let image = image_by(rt, alloc, source, recipe, "1")?;
-    let told = left.report.bytes();
+    let told = left.report.as_slice();
     Ok(
         left.status == status
             && told.starts_with(report)
             && (status == 1 || told.len() == report.len())
-            && left.files.get("out") == has_image.then_some(image.as_slice()),
+            && left.out_len() == has_image.then_some(image.len())
+            && left.is_front_of(&image),
     )
 }
 
@@ -346,8 +344,8 @@ fn a_report_that_is_not_written_is_a_write_fault(rt: HostRuntime) -> Result<(), 
         let options = ("iln", "1", ["--report", "log"].as_slice());
         let left = built(&rt, alloc, options, DIAMOND, [&[], failing], &mut watchers)?;
         assert_eq!(rt; left.status, 3);
-        assert_eq!(rt; left.report.bytes().len(), length);
-        assert!(rt; left.files.get("out").is_some());
+        assert_eq!(rt; left.report.as_slice().len(), length);
+        assert!(rt; left.out.is_some());
     }
     Ok(())
 }

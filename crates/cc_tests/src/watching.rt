@@ -5,19 +5,11 @@ use cc_watch::{LogKeeper, Row, Watcher};
 use no_memory::NoMemory;
 use std::alloc::Global;
 
-/// The name of a watcher: `a`, `b` or `c`.
-#[derive(Clone, Copy)]
-pub enum Label {
-    A,
-    B,
-    C,
-}
-
 /// A keeper of the log with a name of its own, which takes so many rows and refuses the next one.
 /// It may refuse its text too.
 #[derive(Drop)]
 pub struct Watching {
-    pub label: Label,
+    pub label: &'static str,
     pub room: u32,
     pub has_text: bool,
     pub log: LogKeeper,
@@ -25,7 +17,7 @@ pub struct Watching {
 
 impl Watching {
     /// A watcher of this name that holds no row.
-    pub fn new(alloc: Global, label: Label, room: u32, has_text: bool) -> Watching {
+    pub fn new(alloc: Global, label: &'static str, room: u32, has_text: bool) -> Watching {
         Watching {
             label,
             room,
@@ -37,20 +29,15 @@ impl Watching {
 
 impl Watcher for Watching {
     ghost use Rattle.cc_watch.specs.Texts.{log_text};
-    ghost use Rattle.cc_tests.specs.Label.{name_of};
 
-    ghost named = { λ watching. name_of watching.label };
+    ghost named = { λ watching. watching.label.now };
 
     ghost stands_for = { λ watching rows. watching.log ≡ rows };
 
     ghost text_of = { λ _ rows. log_text rows };
 
     fn name(&self) -> &str {
-        match self.label {
-            Label::A => "a",
-            Label::B => "b",
-            Label::C => "c",
-        }
+        self.label
     }
 
     fn tell(&mut self, row: &Row) -> Result<(), NoMemory> {
