@@ -15,6 +15,7 @@ while IFS= read -r cell; do
     for name in $(printf '%s\n' "$cell" | sed 's/^[^:]*://' | grep -o '`[a-z0-9_]*`' | tr -d '`'); do
         [ -e "crates/$crate/must-fail/$name.edit" ] || [ -e "crates/$crate/mutants/$name.edit" ] \
             || grep -A 1 -h '#\[test\]' "crates/$crate"/src/*.rt | grep -q "^fn $name(" \
+            || grep -qsx "$name holds" "crates/$crate/stdout" \
             || fail "$crate has neither an edit nor a test $name"
         count=$((count + 1))
     done

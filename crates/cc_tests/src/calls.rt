@@ -3,12 +3,16 @@ use board_work::{Gate, OpenGate};
 use cc_io::{MemFiles, MemSink, MemSource};
 use cc_top::top;
 use cc_watch::Watcher;
-use std::alloc::{AllocError, Global};
+use no_memory::NoMemory;
+use std::alloc::Global;
 use std::sync::Wait;
 use std::thread::Threads;
 
 /// The recipe of a build that names none.
 pub const DEFAULT: &str = "iln,fold,inv,cne,dne,ivt,psh,pll,url,fold,cne,inv,dne,dne";
+
+/// What a test tells: nothing, or the first of its cases that does not hold.
+pub type Tried = Result<Option<usize>, NoMemory>;
 
 /// What a call left.
 #[derive(Drop)]
@@ -44,7 +48,7 @@ impl Left {
 /// The calls that fail, where none does.
 pub const NONE: [&[u64]; 4] = [&[], &[], &[], &[]];
 
-fn arguments_of(alloc: Global, words: &[&str]) -> Result<Vec<String>, AllocError> {
+fn arguments_of(alloc: Global, words: &[&str]) -> Result<Vec<String>, NoMemory> {
     let mut arguments = Vec::new(alloc);
     for word in words {
         arguments.push(String::from_str(alloc, word)?)?;
@@ -56,7 +60,7 @@ fn files_of(
     alloc: Global,
     (name, bytes): (&str, &[u8]),
     failing: &[u64],
-) -> Result<MemFiles, AllocError> {
+) -> Result<MemFiles, NoMemory> {
     let bytes = bytes.to_vec(alloc)?;
     let mut files = MemFiles::new(alloc, failing.to_vec(alloc)?);
     files.insert(name, bytes)?;
@@ -69,7 +73,7 @@ fn left_of(
     files: &MemFiles,
     output: &MemSink,
     report: &MemSink,
-) -> Result<Left, AllocError> {
+) -> Result<Left, NoMemory> {
     let out = match files.get("out") {
         Some(bytes) => Some(bytes.to_vec(alloc)?),
         None => None,
@@ -96,7 +100,7 @@ pub fn called_through<G: Gate>(
     failing: [&[u64]; 4],
     gate: &G,
     watchers: &mut Vec<Box<dyn Watcher>>,
-) -> Result<Left, AllocError> {
+) -> Result<Left, NoMemory> {
     // Nothing wide is held where memory may run out.
     let arguments = arguments_of(alloc, words)?;
     let input = input.to_vec(alloc)?;
@@ -135,7 +139,7 @@ pub fn called(
     file: (&str, &[u8]),
     input: &[u8],
     failing: [&[u64]; 4],
-) -> Result<Left, AllocError> {
+) -> Result<Left, NoMemory> {
     let mut watchers = Vec::new(alloc);
     called_through(
         rt,
@@ -158,7 +162,7 @@ pub fn called_on_image(
     image: &[u8],
     input: &[u8],
     failing: [&[u64]; 4],
-) -> Result<Left, AllocError> {
+) -> Result<Left, NoMemory> {
     called(rt, alloc, words, ("image", image), input, failing)
 }
 
@@ -170,7 +174,7 @@ pub fn called_on_source(
     words: &[&str],
     source: &[u8],
     failing: &[u64],
-) -> Result<Left, AllocError> {
+) -> Result<Left, NoMemory> {
     called(
         rt,
         alloc,
@@ -189,7 +193,7 @@ pub fn image_by(
     source: &[u8],
     recipe: &str,
     workers: &str,
-) -> Result<Vec<u8>, AllocError> {
+) -> Result<Vec<u8>, NoMemory> {
     let words = [
         "rvcc",
         "build",
@@ -207,7 +211,7 @@ pub fn image_by(
         _ => Ok(Vec::new(alloc)),
     };
     drop(left);
-    image
+    Ok(image?)
 }
 
 /// Each call on the files of a build whose image has 8,200 bytes, and one more, which is not made:

@@ -1,7 +1,12 @@
 //! Calls on the files and streams that fail in mid-stream.
-use crate::calls::{DEFAULT, FAILING_CALLS, called_on_image, called_on_source, image_by, is_left};
+use crate::calls::{
+    DEFAULT, FAILING_CALLS, Tried, called_on_image, called_on_source, image_by, is_left,
+};
 use crate::sources::{ANSWER, DIAMOND, ECHO};
-use std::test::Fail;
+use no_memory::NoMemory;
+use std::alloc::Global;
+use std::sync::Wait;
+use std::thread::Threads;
 
 /// The arguments of a call, what it is given on the input, which calls on the files, the input, the
 /// output and the report fail, and then the status, the output, the report and how many bytes the
@@ -85,36 +90,63 @@ const ROWS: [Row; 17] = [
     ),
 ];
 
-#[test]
-fn failing_calls_have_their_status(rt: HostRuntime) -> Result<(), Fail> {
-    let alloc = rt.alloc();
-    let image = image_by(&rt, alloc, ECHO, "none", "1")?;
-    for (k, row) in ROWS.iter().enumerate() {
-        let (words, input, failing, status, output, report, len) = *row;
-        let left = called_on_image(&rt, alloc, words, &image, input, failing)?;
-        assert_eq!(rt; left.status, status, "row {k}");
-        assert_eq!(rt; left.output.as_slice(), output, "row {k}");
-        assert_eq!(rt; left.report.as_slice(), report, "row {k}");
-        assert_eq!(rt; left.out_len(), len, "row {k}");
-    }
-    Ok(())
+// Whether a call leaves what its row says.
+fn is_as_told(
+    rt: &(impl Threads + Wait + Sync),
+    alloc: Global,
+    image: &[u8],
+    row: Row,
+) -> Result<bool, NoMemory> {
+    let (words, input, failing, status, output, report, len) = row;
+    let left = called_on_image(rt, alloc, words, image, input, failing)?;
+    Ok(
+        left.status == status
+            && left.output.as_slice() == output
+            && left.report.as_slice() == report
+            && left.out_len() == len,
+    )
 }
 
-#[test]
-fn failing_calls_of_a_build_have_their_status(rt: HostRuntime) -> Result<(), Fail> {
-    let alloc = rt.alloc();
+/// Each failing call on files and streams has its status, and leaves what it says.
+pub fn failing_calls_have_their_status(rt: &(impl Threads + Wait + Sync), alloc: Global) -> Tried {
+    let image = image_by(rt, alloc, ECHO, "none", "1")?;
+    for (k, row) in ROWS.iter().enumerate() {
+        if !is_as_told(rt, alloc, &image, *row)? {
+            return Ok(Some(k));
+        }
+    }
+    Ok(None)
+}
+
+// The first failing call that a build of a source by so many workers does not leave as it should.
+fn not_left(
+    rt: &(impl Threads + Wait + Sync),
+    alloc: Global,
+    source: &[u8],
+    workers: &str,
+) -> Tried {
+    let image = image_by(rt, alloc, source, DEFAULT, "1")?;
+    let words = ["rvcc", "build", "in", "out", "--workers", workers];
+    for (k, (call, status, report, len)) in FAILING_CALLS.iter().enumerate() {
+        let left = called_on_source(rt, alloc, &words, source, &[*call])?;
+        if !is_left(&left, *status, report, &image, *len) {
+            return Ok(Some(k));
+        }
+    }
+    Ok(None)
+}
+
+/// Each failing call of a build has its status, by one worker and by two.
+pub fn failing_calls_of_a_build_have_their_status(
+    rt: &(impl Threads + Wait + Sync),
+    alloc: Global,
+) -> Tried {
     for source in [ANSWER, DIAMOND] {
-        let image = image_by(&rt, alloc, source, DEFAULT, "1")?;
-        for (call, status, report, len) in FAILING_CALLS {
-            for workers in ["1", "2"] {
-                let words = ["rvcc", "build", "in", "out", "--workers", workers];
-                let left = called_on_source(&rt, alloc, &words, source, &[call])?;
-                assert!(rt;
-                    is_left(&left, status, report, &image, len),
-                    "call {call} by {workers}"
-                );
+        for workers in ["1", "2"] {
+            if let Some(k) = not_left(rt, alloc, source, workers)? {
+                return Ok(Some(k));
             }
         }
     }
-    Ok(())
+    Ok(None)
 }

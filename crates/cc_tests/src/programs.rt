@@ -1,10 +1,10 @@
 //! Programs that are built and run, and builds by several workers.
-use crate::calls::{DEFAULT, NONE, called_on_image, called_through, image_by};
+use crate::calls::{DEFAULT, NONE, Tried, called_on_image, called_through, image_by};
 use crate::sources::{ANSWER, DIAMOND, ECHO, FOUR, LETTERS};
 use board_work::{CountGate, Gate, MeetGate};
-use std::alloc::{AllocError, Global};
+use no_memory::NoMemory;
+use std::alloc::Global;
 use std::sync::Wait;
-use std::test::Fail;
 use std::thread::Threads;
 
 /// Sources, with what is read, what is written, and the report of the run.
@@ -28,7 +28,7 @@ fn is_run(
     alloc: Global,
     program: (&[u8], &[u8], &[u8], &[u8]),
     recipe: &str,
-) -> Result<bool, AllocError> {
+) -> Result<bool, NoMemory> {
     let (source, input, output, report) = program;
     let image = image_by(rt, alloc, source, recipe, "1")?;
     let two = image_by(rt, alloc, source, recipe, "2")?;
@@ -45,11 +45,7 @@ fn is_run(
 }
 
 /// The number of the first program that does not do what its source says under this recipe, if any.
-fn not_run(
-    rt: &(impl Threads + Wait + Sync),
-    alloc: Global,
-    recipe: &str,
-) -> Result<Option<usize>, AllocError> {
+fn not_run(rt: &(impl Threads + Wait + Sync), alloc: Global, recipe: &str) -> Tried {
     for (k, program) in PROGRAMS.iter().enumerate() {
         if !is_run(rt, alloc, *program, recipe)? {
             return Ok(Some(k));
@@ -58,16 +54,20 @@ fn not_run(
     Ok(None)
 }
 
-#[test]
-fn programs_do_what_their_sources_say(rt: HostRuntime) -> Result<(), Fail> {
-    assert_eq!(rt; not_run(&rt, rt.alloc(), "none")?, None);
-    Ok(())
+/// Programs do what their sources say.
+pub fn programs_do_what_their_sources_say(
+    rt: &(impl Threads + Wait + Sync),
+    alloc: Global,
+) -> Tried {
+    not_run(rt, alloc, "none")
 }
 
-#[test]
-fn programs_do_the_same_under_a_recipe(rt: HostRuntime) -> Result<(), Fail> {
-    assert_eq!(rt; not_run(&rt, rt.alloc(), DEFAULT)?, None);
-    Ok(())
+/// Programs do the same under a recipe.
+pub fn programs_do_the_same_under_a_recipe(
+    rt: &(impl Threads + Wait + Sync),
+    alloc: Global,
+) -> Tried {
+    not_run(rt, alloc, DEFAULT)
 }
 
 /// The status of a build of four functions by so many workers, through this gate.
@@ -76,29 +76,32 @@ fn built_through<G: Gate>(
     alloc: Global,
     workers: &str,
     gate: &G,
-) -> Result<u8, AllocError> {
+) -> Result<u8, NoMemory> {
     let words = ["rvcc", "build", "in", "out", "--workers", workers];
     let file = ("in", FOUR);
     let mut watchers = Vec::new(alloc);
     Ok(called_through(rt, alloc, &words, file, b"", NONE, gate, &mut watchers)?.status)
 }
 
-#[test]
-fn two_workers_make_at_once(rt: HostRuntime) -> Result<(), Fail> {
-    let alloc = rt.alloc();
-    for (workers, turns, met) in [("2", 1_000_000_000, true), ("1", 1_000, false)] {
-        let gate = MeetGate::new(1, 2, turns);
-        assert_eq!(rt; built_through(&rt, alloc, workers, &gate)?, 0);
-        assert_eq!(rt; gate.met(), met);
+/// Two workers are at the gate at once; one alone gives up after so many turns.
+pub fn two_workers_make_at_once(rt: &(impl Threads + Wait + Sync), alloc: Global) -> Tried {
+    let rows: [(&str, u64, bool); 2] = [("2", 1_000_000_000, true), ("1", 1_000, false)];
+    for (k, (workers, turns, met)) in rows.iter().enumerate() {
+        let gate = MeetGate::new(1, 2, *turns);
+        let status = built_through(rt, alloc, workers, &gate)?;
+        if status != 0 || gate.met() != *met {
+            return Ok(Some(k));
+        }
     }
-    Ok(())
+    Ok(None)
 }
 
-#[test]
-fn a_build_is_the_work_of_its_workers(rt: HostRuntime) -> Result<(), Fail> {
-    let alloc = rt.alloc();
+/// Each function is a job that passes the gate.
+pub fn a_build_is_the_work_of_its_workers(
+    rt: &(impl Threads + Wait + Sync),
+    alloc: Global,
+) -> Tried {
     let gate = CountGate::new();
-    assert_eq!(rt; built_through(&rt, alloc, "2", &gate)?, 0);
-    assert_eq!(rt; gate.passes(), 4);
-    Ok(())
+    let status = built_through(rt, alloc, "2", &gate)?;
+    Ok((status != 0 || gate.passes() != 4).then_some(0))
 }

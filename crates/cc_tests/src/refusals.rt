@@ -1,9 +1,9 @@
 //! Sources that are refused, a few of each phase, and the line that is reported, by a build and
 //! from the input alike.
-use crate::calls::{NONE, called};
-use std::alloc::{AllocError, Global};
+use crate::calls::{NONE, Tried, called};
+use no_memory::NoMemory;
+use std::alloc::Global;
 use std::sync::Wait;
-use std::test::Fail;
 use std::thread::Threads;
 
 /// Sources, and the report of each.
@@ -40,7 +40,7 @@ fn is_refused(
     words: &[&str],
     source: &[u8],
     line: &[u8],
-) -> Result<bool, AllocError> {
+) -> Result<bool, NoMemory> {
     let left = called(rt, alloc, words, ("in", source), source, NONE)?;
     Ok(
         left.status == 4
@@ -50,18 +50,24 @@ fn is_refused(
     )
 }
 
-#[test]
-fn sources_are_refused_at_their_lines(rt: HostRuntime) -> Result<(), Fail> {
-    let alloc = rt.alloc();
-    let calls: [&[&str]; 3] = [
-        &["rvcc"],
-        &["rvcc", "build", "in", "out"],
-        &["rvcc", "build", "in", "out", "--workers", "64"],
-    ];
+/// The calls by which a source is refused.
+const CALLS: [&[&str]; 3] = [
+    &["rvcc"],
+    &["rvcc", "build", "in", "out"],
+    &["rvcc", "build", "in", "out", "--workers", "64"],
+];
+
+/// Sources are refused at their lines.
+pub fn sources_are_refused_at_their_lines(
+    rt: &(impl Threads + Wait + Sync),
+    alloc: Global,
+) -> Tried {
     for (k, (source, line)) in SOURCES.iter().enumerate() {
-        for words in calls {
-            assert!(rt; is_refused(&rt, alloc, words, source, line)?, "source {k}");
+        for words in CALLS.iter() {
+            if !is_refused(rt, alloc, words, source, line)? {
+                return Ok(Some(k));
+            }
         }
     }
-    Ok(())
+    Ok(None)
 }

@@ -1,5 +1,5 @@
 //! What is reported to watchers, and builds with a report in which calls fail.
-use crate::calls::{FAILING_CALLS, Left, called_through, image_by, is_left};
+use crate::calls::{FAILING_CALLS, Left, Tried, called_through, image_by, is_left};
 use crate::sources::{DIAMOND, PRODUCT};
 use crate::watching::Watching;
 use board_work::OpenGate;
@@ -9,7 +9,6 @@ use g_graph::{Rule, Step};
 use no_memory::NoMemory;
 use std::alloc::Global;
 use std::sync::Wait;
-use std::test::Fail;
 use std::thread::Threads;
 
 /// A watcher of a case: the counter, or a keeper of the log of this name, which takes so many rows
@@ -33,8 +32,8 @@ type Build = (
     bool,
 );
 
-/// Watchers that several builds are given one after the other, and their texts in the end, one
-/// after the other, if none refuses it.
+/// Watchers that several builds are given one after the other, and their texts in the end, one after
+/// the other, if none refuses it.
 struct Case {
     watchers: &'static [Kind],
     builds: &'static [Build],
@@ -52,8 +51,7 @@ const CASES: [Case; 6] = [
         texts: Some(
             b"function main 12 12\nfunction d 11 11\nfunction b 15 15\niln 0\nfunction c 15 15\n\
               iln 0\nfunction main 20 28\niln 1\niln 3\n\
-              functions 5 fold 0 cne 0 dne 0 inv 0 psh 0 pll 0 ivt 0 url 0 iln 4 before 73 \
-              after 81\n",
+              functions 5 fold 0 cne 0 dne 0 inv 0 psh 0 pll 0 ivt 0 url 0 iln 4 before 73 after 81\n",
         ),
     },
     // The first of a name reports: the second one would refuse its text.
@@ -105,8 +103,7 @@ const CASES: [Case; 6] = [
         builds: &[(DIAMOND, "iln", &[], &[], 6, b"memory\n", false)],
         texts: Some(
             b"function d 11 11\nfunction b 15 15\niln 0\nfunction c 15 15\niln 0\n\
-              function d 11 11\nfunction b 15 15\niln 0\nfunction d 11 11\nfunction b 15 15\n\
-              iln 0\n",
+              function d 11 11\nfunction b 15 15\niln 0\nfunction d 11 11\nfunction b 15 15\niln 0\n",
         ),
     },
     // A watcher refuses its text.
@@ -194,7 +191,7 @@ fn built(
     words.extend_from_slice(options)?;
     let file = ("in", source);
     let failing = [failing[0], &[], &[], failing[1]];
-    Ok(called_through(rt, alloc, &words, file, b"", failing, &OpenGate, watchers)?)
+    called_through(rt, alloc, &words, file, b"", failing, &OpenGate, watchers)
 }
 
 /// Whether a build leaves what is told of it.
@@ -228,24 +225,35 @@ fn texts_of(alloc: Global, watchers: &[Box<dyn Watcher>]) -> Result<Vec<u8>, NoM
     Ok(texts)
 }
 
-#[test]
-fn watchers_are_told_what_is_built(rt: HostRuntime) -> Result<(), Fail> {
-    let alloc = rt.alloc();
+/// Whether the builds of a case by so many workers are as told, and its watchers have their texts.
+fn is_told(
+    rt: &(impl Threads + Wait + Sync),
+    alloc: Global,
+    case: &Case,
+    workers: &str,
+) -> Result<bool, NoMemory> {
+    let mut watchers = watchers_of(alloc, case.watchers)?;
+    for build in case.builds {
+        if !is_built(rt, alloc, *build, workers, &mut watchers)? {
+            return Ok(false);
+        }
+    }
+    match case.texts {
+        Some(texts) => Ok(texts_of(alloc, &watchers)?.as_slice() == texts),
+        None => Ok(true),
+    }
+}
+
+/// Watchers are told what is built, by one worker and by 64.
+pub fn watchers_are_told_what_is_built(rt: &(impl Threads + Wait + Sync), alloc: Global) -> Tried {
     for (k, case) in CASES.iter().enumerate() {
         for workers in ["1", "64"] {
-            let mut watchers = watchers_of(alloc, case.watchers)?;
-            for build in case.builds {
-                assert!(rt;
-                    is_built(&rt, alloc, *build, workers, &mut watchers)?,
-                    "case {k} by {workers}"
-                );
-            }
-            if let Some(texts) = case.texts {
-                assert_eq!(rt; texts_of(alloc, &watchers)?.as_slice(), texts, "case {k}");
+            if !is_told(rt, alloc, case, workers)? {
+                return Ok(Some(k));
             }
         }
     }
-    Ok(())
+    Ok(None)
 }
 
 /// The options of a build of `DIAMOND` under the recipe `iln`, and the report.
@@ -283,34 +291,61 @@ fn watched(
     )
 }
 
-#[test]
-fn failing_calls_have_their_status_with_a_report(rt: HostRuntime) -> Result<(), Fail> {
-    let alloc = rt.alloc();
-    let image = image_by(&rt, alloc, DIAMOND, "iln", "1")?;
-    for (options, text) in REPORTS {
-        for (call, status, line, len) in FAILING_CALLS {
-            let report = if status == 0 { text } else { line };
-            let left = watched(&rt, alloc, options, [&[call], &[]])?;
-            assert!(rt; is_left(&left, status, report, &image, len), "call {call}");
-        }
+/// What a build leaves that has this status and line, or reports this text where it is done: its
+/// status and its report. Where the first call on the report fails, and one is made, it is a fault.
+fn with_report<'a>(status: u8, line: &'a [u8], text: &'a [u8], is_failing: bool) -> (u8, &'a [u8]) {
+    let report = if status == 0 { text } else { line };
+    if is_failing && !report.is_empty() {
+        return (3, &[]);
     }
-    Ok(())
+    (status, report)
 }
 
-#[test]
-fn a_failing_report_is_a_write_fault(rt: HostRuntime) -> Result<(), Fail> {
-    let alloc = rt.alloc();
-    let image = image_by(&rt, alloc, DIAMOND, "iln", "1")?;
-    for (options, text) in REPORTS {
-        for (call, status, line, len) in FAILING_CALLS {
-            // Where nothing is reported, the call on the report is not made.
-            let report = if status == 0 { text } else { line };
-            let status = if report.is_empty() { 0 } else { 3 };
-            let left = watched(&rt, alloc, options, [&[call], &[0]])?;
-            assert!(rt; is_left(&left, status, b"", &image, len), "call {call}");
+/// The first failing call with these options, and with failing calls on the report, after which not
+/// this is left: the status and the report, and of the image what the call lets through.
+fn not_left(
+    rt: &(impl Threads + Wait + Sync),
+    alloc: Global,
+    options: &[&str],
+    text: &[u8],
+    is_failing: bool,
+) -> Tried {
+    let image = image_by(rt, alloc, DIAMOND, "iln", "1")?;
+    let failing: &[u64] = if is_failing { &[0] } else { &[] };
+    for (k, (call, status, line, len)) in FAILING_CALLS.iter().enumerate() {
+        let (status, report) = with_report(*status, line, text, is_failing);
+        let left = watched(rt, alloc, options, [&[*call], failing])?;
+        if !is_left(&left, status, report, &image, *len) {
+            return Ok(Some(k));
         }
     }
-    Ok(())
+    Ok(None)
+}
+
+/// Failing calls have their status with each report.
+pub fn failing_calls_have_their_status_with_a_report(
+    rt: &(impl Threads + Wait + Sync),
+    alloc: Global,
+) -> Tried {
+    for (options, text) in REPORTS.iter() {
+        if let Some(k) = not_left(rt, alloc, options, text, false)? {
+            return Ok(Some(k));
+        }
+    }
+    Ok(None)
+}
+
+/// A report that fails is a write fault.
+pub fn a_failing_report_is_a_write_fault(
+    rt: &(impl Threads + Wait + Sync),
+    alloc: Global,
+) -> Tried {
+    for (options, text) in REPORTS.iter() {
+        if let Some(k) = not_left(rt, alloc, options, text, true)? {
+            return Ok(Some(k));
+        }
+    }
+    Ok(None)
 }
 
 /// A keeper of a row with so many steps, each of a line of eight bytes.
@@ -335,17 +370,29 @@ fn long_log(alloc: Global, steps: usize) -> Result<LogKeeper, NoMemory> {
 /// The call on the report that fails, and how many bytes are written.
 const CUTS: [(&[u64], usize); 3] = [(&[0], 0), (&[1], 4_096), (&[4], 16_384)];
 
-#[test]
-fn a_report_that_is_not_written_is_a_write_fault(rt: HostRuntime) -> Result<(), Fail> {
-    let alloc = rt.alloc();
-    for (failing, length) in CUTS {
-        let mut watchers: Vec<Box<dyn Watcher>> = Vec::new(alloc);
-        watchers.push(Box::new(alloc, long_log(alloc, 2_500)?)?)?;
-        let options = ("iln", "1", ["--report", "log"].as_slice());
-        let left = built(&rt, alloc, options, DIAMOND, [&[], failing], &mut watchers)?;
-        assert_eq!(rt; left.status, 3);
-        assert_eq!(rt; left.report.as_slice().len(), length);
-        assert!(rt; left.out.is_some());
+/// Whether a long report of which a call fails is written so far, with its status.
+fn is_cut(
+    rt: &(impl Threads + Wait + Sync),
+    alloc: Global,
+    failing: &[u64],
+    length: usize,
+) -> Result<bool, NoMemory> {
+    let mut watchers: Vec<Box<dyn Watcher>> = Vec::new(alloc);
+    watchers.push(Box::new(alloc, long_log(alloc, 2_500)?)?)?;
+    let options = ("iln", "1", ["--report", "log"].as_slice());
+    let left = built(rt, alloc, options, DIAMOND, [&[], failing], &mut watchers)?;
+    Ok(left.status == 3 && left.report.as_slice().len() == length && left.out.is_some())
+}
+
+/// A report that is not written whole is a write fault.
+pub fn a_report_that_is_not_written_is_a_write_fault(
+    rt: &(impl Threads + Wait + Sync),
+    alloc: Global,
+) -> Tried {
+    for (k, (failing, length)) in CUTS.iter().enumerate() {
+        if !is_cut(rt, alloc, failing, *length)? {
+            return Ok(Some(k));
+        }
     }
-    Ok(())
+    Ok(None)
 }
