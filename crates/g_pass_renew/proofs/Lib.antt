@@ -1,2 +1,3 @@
 mod WholeList
 mod OneJob
+mod Crosses

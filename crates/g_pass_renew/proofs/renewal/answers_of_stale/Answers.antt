@@ -1,6 +1,7 @@
 use Rattle.std.proofs.Common.{◌≡◌, [], ℕ, List, Vec, Global, length, map, slice_index_or, sym, ap, subst, ◌∙◌, arith}
 use Rattle.std.proofs.Crossing.{crosses}
 use denote.Param.Send.{sendable}
+use Rattle.g_pass_renew.proofs.Crosses.{kept-crosses}
 use Rattle.std.specs.Arc.{arc_value}
 use Rattle.std.proofs.lemmas.List.{length-map}
 use Rattle.std.proofs.lemmas.Result.{IfOk-weaker}
@@ -69,7 +70,7 @@ returns g c =
     (λ given are. subst (λ (q : Program PlainOptimised). AreResults q (map arc_value given.items)) same are) c.do_jobs_by_workers.ensures
 
 pub do_jobs_by_workers-requires-send-W : goal.do_jobs_by_workers-requires-send-W
-do_jobs_by_workers-requires-send-W g c κs within = search (sendable, crosses) depth 60 fits 50000
+do_jobs_by_workers-requires-send-W g c κs within = search (sendable, crosses, kept-crosses) depth 40 fits 20000
 
 pub do_jobs_by_workers-requires-sync-W : goal.do_jobs_by_workers-requires-sync-W
-do_jobs_by_workers-requires-sync-W g c κs within = search (sendable, crosses) depth 60 fits 50000
+do_jobs_by_workers-requires-sync-W g c κs within = search (sendable, crosses, kept-crosses) depth 40 fits 20000
