@@ -1,6 +1,6 @@
 //! The parts of an edit: where a function stands, a source with a text in its place, and names.
 
-ghost use Rattle.std.specs.Prelude.{◌≡◌, map, IfOk};
+ghost use Rattle.std.specs.Prelude.{◌≡◌, IfOk};
 ghost use Rattle.std.specs.Cmp.Lexicographic.{pointwise};
 ghost use Rattle.c_check_scope.specs.Scopes.{same_name};
 ghost use Rattle.cc_edit.specs.Edits.{extent_of, names_of, replaced};
