@@ -1,4 +1,5 @@
-//! Laws of the places of broken rules and of globals, each the contract of a function that does nothing.
+//! Laws of the places of broken rules and of globals, each the contract of a function that does
+//! nothing.
 
 ghost use Rattle.c_check_place_laws.specs.PlaceLaws.{BreaksStandAtTokens, GlobalsStandInOrder, LaterBreaksStandLater};
 

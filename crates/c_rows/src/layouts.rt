@@ -2,10 +2,10 @@
 //!
 //! A type is written from its base on: `v` (void), `c` (char), `sc`, `uc`, `h` (short), `uh`, `i`,
 //! `u`, or `s` and a tag; then `.p` for a pointer to that, and `.3` for an array of 3 of that.
-//! `=TAG:TYPE,..` defines a struct by its members; `+` for the tag is the one after the last that is
-//! defined, which `s-` names. `TYPE` says size and alignment, `TAG+N` the offset of a member,
-//! `TAG~TYPE,..` whether these are the members, and `*TYPE` the leaves of a copy of the type, each as
-//! offset and width, with `x` and a count where leaves of one width follow one another.
+//! `=TAG:TYPE,..` defines a struct by its members; `+` for the tag is the one after the last that
+//! is defined, which `s-` names. `TYPE` says size and alignment, `TAG+N` the offset of a member,
+//! `TAG~TYPE,..` whether these are the members, and `*TYPE` the leaves of a copy of the type, each
+//! as offset and width, with `x` and a count where leaves of one width follow one another.
 //!
 //! In the table the structs of the tags 4, 0, 7 and 1 are laid out as clang 14 does for riscv32
 //! (`clang --target=riscv32-unknown-elf -std=c11`) of

@@ -1,6 +1,6 @@
-//! Tokens. A row is a source, in which `%` and two hexadecimal digits are a byte. Each token is said
-//! behind a blank: its sort, its value, and where it begins and ends. Of more than 100 it is said
-//! how many they are; of a source that is refused its fault.
+//! Tokens. A row is a source, in which `%` and two hexadecimal digits are a byte. Each token is
+//! said behind a blank: its sort, its value, and where it begins and ends. Of more than 100 it is
+//! said how many they are; of a source that is refused its fault.
 
 use crate::sources::source_of;
 use c_lex::{Bytes, Keyword, Token, TokenKind, lex};

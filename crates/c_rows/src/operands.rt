@@ -8,8 +8,8 @@ use no_memory::NoMemory;
 use std::alloc::Global;
 use std::sync::Arc;
 
-/// The operands and their types (`layouts`): variables, those after `k` const; the constants 0, `0u`
-/// and 1; and a call of a void function.
+/// The operands and their types (`layouts`): variables, those after `k` const; the constants 0,
+/// `0u` and 1; and a call of a void function.
 pub const OPERANDS: [(&str, &str); 21] = [
     ("c", "c"),
     ("sc", "sc"),

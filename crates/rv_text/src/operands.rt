@@ -7,6 +7,7 @@ use itoa::Buffer;
 use no_memory::NoMemory;
 use rv_isa::Reg;
 
+/// Puts a text behind what is there.
 pub fn push(out: &mut Vec<u8>, text: &str) -> Result<(), NoMemory>
     ensures { OnOk result (out.new.items ≡ out.old.items ++ text.now) }
 {
@@ -40,6 +41,8 @@ fn named(number: u32) -> &'static str
     }
 }
 
+/// Puts the name of a register behind what is there: `zero` for x0, `a0` for x10, and so on, as in
+/// the table of the calling convention (RISC-V manual, "RISC-V Assembly Programmer's Handbook").
 pub fn push_register(out: &mut Vec<u8>, reg: Reg) -> Result<(), NoMemory>
     ensures { OnOk result (out.new.items ≡ out.old.items ++ register_name reg) }
 {
