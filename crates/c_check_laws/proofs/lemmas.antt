@@ -20,6 +20,7 @@ mod Initialisers
 mod Locals
 mod Declared
 mod Widened
+pub mod Quiet
 pub mod Texts
 mod StatementTexts
 mod Goes

@@ -6,7 +6,6 @@ mod Statements
 mod Files
 mod Reported
 mod Order
-mod Quiet
 mod OrderExpressions
 mod OrderDeclarations
 mod OrderStatements

@@ -14,9 +14,8 @@ use Rattle.c_check_def.specs.DeclaredTypes.{object_type}
 use Rattle.c_check_def.specs.Expressions.{more_characters, expression}
 use Rattle.c_check_def.specs.Initialisers.{value, character_array, string_for, sets_to_zero, count_in, part_of, part_at, list_for, initialiser, elements, completed}
 use Rattle.c_check_def.specs.Declarators.{open_dimension, open_dimensions, is_fixed, completed_type, written_in, initialise_global, global_declarator, global_declared, more_globals, initialise_variable, variable_declarator, declarator, more_declarators, locals}
-use Rattle.c_check_laws.proofs.lemmas.Texts.{if_some_quiet, specified_type_quiet, size_quiet}
+use Rattle.c_check_laws.proofs.lemmas.Quiet.{if_some_quiet, specified_type_quiet, size_quiet, object_type_quiet, value_read_quiet, characters_quiet, list_for_quiet, completed_type_quiet, declare_quiet}
 use Rattle.c_check_place_laws.proofs.Order.{places, KeepsOrder, over, same, then_same, then_quiet, in_turn, past, node, ended, added, changed_places, Named}
-use Rattle.c_check_place_laws.proofs.Quiet.{object_type_quiet, value_read_quiet, characters_quiet, list_for_quiet, completed_type_quiet, declare_quiet}
 use Rattle.c_check_place_laws.proofs.OrderExpressions.{expression_order}
 
 -- ---- initialisers

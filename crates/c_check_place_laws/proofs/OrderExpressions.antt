@@ -12,9 +12,8 @@ use Rattle.c_check_def.specs.Specifiers.{specified_type}
 use Rattle.c_check_def.specs.Operands.{string_type, string, Sequence, first_of}
 use Rattle.c_check_def.specs.Calls.{called_name, called_term}
 use Rattle.c_check_def.specs.Expressions.{more_characters, expression, expressions, more_expressions, arguments, more_arguments, type_name, dimensions}
-use Rattle.c_check_laws.proofs.lemmas.Texts.{specified_type_quiet, size_quiet}
+use Rattle.c_check_laws.proofs.lemmas.Quiet.{specified_type_quiet, size_quiet, named_quiet, binary_quiet, conditional_quiet, indexed_quiet, cast_quiet, measured_quiet, unary_quiet, stepped_quiet, assigned_quiet, selected_quiet, comma_quiet, called_name_quiet, called_quiet, named_type_quiet}
 use Rattle.c_check_place_laws.proofs.Order.{KeepsOrder, over, same, in_turn, past, node, added, Named}
-use Rattle.c_check_place_laws.proofs.Quiet.{named_quiet, binary_quiet, conditional_quiet, indexed_quiet, cast_quiet, measured_quiet, unary_quiet, stepped_quiet, assigned_quiet, selected_quiet, comma_quiet, called_name_quiet, called_quiet, named_type_quiet}
 
 -- a string literal stands at its first token
 string_order : (x : Token) (cs : List ℕ) (s : State) → KeepsOrder (Leaf x) s (string x.at cs s).1

@@ -21,11 +21,10 @@ use Rattle.c_check_def.specs.Statements.{Jumps, items}
 use Rattle.c_check_def.specs.Externals.{Member, has_member, member, more_member, members, more_members, types_of, is_large_struct, with_struct, defined, declare_tag, struct, Param, param_name, param_offset, param, more_params, is_lone_void, params, declare_function, bind_params, name_params, function_body, is_block, function, after_name, after_type, after_tag, external}
 use Rattle.c_check_def.specs.Check.{externals}
 use Rattle.c_check_laws.proofs.lemmas.Later.{entered}
-use Rattle.c_check_laws.proofs.lemmas.Texts.{Quiet, breaks_if_quiet, tagged_quiet, specified_type_quiet}
+use Rattle.c_check_laws.proofs.lemmas.Quiet.{Quiet, breaks_if_quiet, tagged_quiet, specified_type_quiet, object_type_quiet, param_type_quiet, declare_if_quiet, declare_function_quiet}
 use Rattle.c_check_laws.proofs.lemmas.Params.{result_type_quiet}
 use Rattle.c_check_laws.proofs.lemmas.FunctionBodies.{name_params_quiet, bind_out}
 use Rattle.c_check_place_laws.proofs.Order.{KeepsOrder, over, same, between, then_quiet, in_turn, past, node, grouped, Named}
-use Rattle.c_check_place_laws.proofs.Quiet.{object_type_quiet, param_type_quiet, declare_if_quiet, declare_function_quiet}
 use Rattle.c_check_place_laws.proofs.OrderExpressions.{dimensions_order}
 use Rattle.c_check_place_laws.proofs.OrderDeclarations.{open_dimensions_order, global_declarator_order, more_globals_order}
 use Rattle.c_check_place_laws.proofs.OrderStatements.{scope_order, items_order}

@@ -11,9 +11,8 @@ use Rattle.c_check_def.specs.Operands.{term_constant}
 use Rattle.c_check_def.specs.Expressions.{expression, expressions}
 use Rattle.c_check_def.specs.Statements.{Jumps, in_loop, in_switch, condition, subject, condition_clause, value_clause, gives_none, returned, Labels, next_group, label, more_labels, Groups, for_start, statement, items, groups, group}
 use Rattle.c_check_laws.proofs.lemmas.Later.{entered}
-use Rattle.c_check_laws.proofs.lemmas.Texts.{breaks_if_quiet, or_broken_quiet, if_some_quiet}
+use Rattle.c_check_laws.proofs.lemmas.Quiet.{breaks_if_quiet, or_broken_quiet, if_some_quiet, whole_quiet, condition_quiet, subject_quiet, jump_quiet, case_label_quiet}
 use Rattle.c_check_place_laws.proofs.Order.{KeepsOrder, over, same, between, then_quiet, in_turn, past, node, Named}
-use Rattle.c_check_place_laws.proofs.Quiet.{whole_quiet, condition_quiet, subject_quiet, jump_quiet, case_label_quiet}
 use Rattle.c_check_place_laws.proofs.OrderExpressions.{expression_order, expressions_order}
 use Rattle.c_check_place_laws.proofs.OrderDeclarations.{locals_order}
 

@@ -12,6 +12,8 @@ use Rattle.c_ast.specs.Grammar as grammar
 use Rattle.c_ast.specs.Spelling.{spelled, tokens_of, first_offset}
 use Rattle.c_ast.proofs.lemmas.Spelling.{spelled_append}
 use Rattle.c_check_def.specs.Leaves.{begin_of}
+use Rattle.c_check_laws.proofs.lemmas.ExpressionShapes.{level_small}
+use Rattle.c_check_laws.proofs.lemmas.FileShapes.{spelled_more}
 
 -- ---- a tree of a nonterminal that is no repetition and no option has a token
 
@@ -29,24 +31,11 @@ abbrev solid_form : grammar.Form → Bool
 solid_form (grammar.One c) = is_solid c
 solid_form (grammar.All ss) = some_solid ss
 
-level_few : (level : l.Level) → class.level_number level ≤ 9
-unfolding class.level_number
-level_few l.Multiplicative = omega arith
-level_few l.Additive = omega arith
-level_few l.Shift = omega arith
-level_few l.Relational = omega arith
-level_few l.Equality = omega arith
-level_few l.BitAnd = omega arith
-level_few l.BitXor = omega arith
-level_few l.BitOr = omega arith
-level_few l.LogicalAnd = omega arith
-level_few l.LogicalOr = omega arith
-
 solid_low : (c : class.Nonterminal) → is_solid c ≡ true → class.nonterminal_number c ≤ 41
 unfolding class.nonterminal_number
 solid_low (class.Many k) e = absurd (false≢true e)
 solid_low (class.Opt k) e = absurd (false≢true e)
-solid_low (class.Binary level) e = let few = level_few level in omega (arith, few)
+solid_low (class.Binary level) e = let few = level_small level in omega (arith, few)
 solid_low c e = omega arith
 
 includes_low : (c b : class.Nonterminal) → class.nonterminal_number c ≤ 41 → class.includes c b ≡ true → class.nonterminal_number b ≤ 41
@@ -64,13 +53,6 @@ rule_solid (l.More k) h = absurd (omega (arith, h))
 rule_solid (l.Absent k) h = absurd (omega (arith, h))
 rule_solid (l.Present k) h = absurd (omega (arith, h))
 rule_solid p h = refl
-
-spelled_more : (t : Tree) (more : List Token) → length more ≤ length (spelled t more)
-unfolding spelled
-spelled_more (Leaf x) more = omega arith
-spelled_more (Node p children) more = spelled_more children more
-spelled_more Nil more = omega arith
-spelled_more (Cons t ts) more = let a = spelled_more ts more in let b = spelled_more t (spelled ts more) in omega (arith, a, b)
 
 -- the first part of some has a token, or the others have
 solid_part : (first rest : Bool) → (first || rest) ≡ true → (more others all : ℕ) → more ≤ others → others ≤ all → (first ≡ true → others < all) → (rest ≡ true → more < others) → more < all

@@ -68,7 +68,7 @@ file_shaped f t h = absurd h
 
 -- ---- a declaration has a token
 
-spelled_more : (t : Tree) (more : List Token) → length more ≤ length (spelled t more)
+pub spelled_more : (t : Tree) (more : List Token) → length more ≤ length (spelled t more)
 unfolding spelled
 spelled_more (Leaf x) more = omega arith
 spelled_more (Node p children) more = spelled_more children more

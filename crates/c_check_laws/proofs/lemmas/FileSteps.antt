@@ -16,7 +16,8 @@ use Rattle.c_check_laws.proofs.lemmas.Terms.{InRange}
 use Rattle.c_check_laws.proofs.lemmas.StatementSteps.{WellShaped}
 use Rattle.c_check_laws.proofs.lemmas.Types.{IsNoArray, specified_no_array}
 use Rattle.c_check_laws.proofs.lemmas.Parts.{Layouts}
-use Rattle.c_check_laws.proofs.lemmas.Texts.{same_globals, no_texts, tagged_quiet, specified_type_quiet}
+use Rattle.c_check_laws.proofs.lemmas.Quiet.{tagged_quiet, specified_type_quiet}
+use Rattle.c_check_laws.proofs.lemmas.Texts.{same_globals, no_texts}
 use Rattle.c_check_laws.proofs.lemmas.GoesLocals.{declarations}
 use Rattle.c_check_laws.proofs.lemmas.File.{Onward, onward_step, onward_then, File, Moved, moved_then, moved_step}
 use Rattle.c_check_laws.proofs.lemmas.Structs.{HasFirst, struct_moved}

@@ -18,7 +18,7 @@ use Rattle.c_check_laws.proofs.lemmas.States.{Ending, is_object_then, type_now, 
 use Rattle.c_check_laws.proofs.lemmas.Steps.{breaks_if_steps}
 use Rattle.c_check_laws.proofs.lemmas.Later.{AreMore, Later, later_then, stay_still, declare_after, entered}
 use Rattle.c_check_laws.proofs.lemmas.Locals.{declared_meaning}
-use Rattle.c_check_laws.proofs.lemmas.Texts.{Quiet, breaks_if_quiet}
+use Rattle.c_check_laws.proofs.lemmas.Quiet.{Quiet, breaks_if_quiet}
 use Rattle.c_check_laws.proofs.lemmas.Params.{ParamsAre}
 use Rattle.c_type.specs.declared.scalar.Scalar.TheVariants as scalar
 use Rattle.c_check_def.specs.Check.{program_of}

@@ -29,8 +29,9 @@ use Rattle.c_check_laws.proofs.lemmas.Types.{IsNoArray, open_dimensions_fit, obj
 use Rattle.c_check_laws.proofs.lemmas.Parts.{Layouts}
 use Rattle.c_check_laws.proofs.lemmas.Locals.{Uncompleted, Completed, completed_fits, declared_meaning}
 use Rattle.c_check_laws.proofs.lemmas.Declared.{set_length, small_is, names_same}
-use Rattle.c_check_laws.proofs.lemmas.Texts.{same_globals, texts_then, no_texts, breaks_if_quiet}
-use Rattle.c_check_laws.proofs.lemmas.StatementTexts.{initialiser_texts, open_dimensions_texts, object_type_quiet}
+use Rattle.c_check_laws.proofs.lemmas.Quiet.{breaks_if_quiet, object_type_quiet}
+use Rattle.c_check_laws.proofs.lemmas.Texts.{same_globals, texts_then, no_texts}
+use Rattle.c_check_laws.proofs.lemmas.StatementTexts.{initialiser_texts, open_dimensions_texts}
 use Rattle.c_check_laws.proofs.lemmas.Goes.{Named, names_typed, no_array_value}
 use Rattle.c_check_laws.proofs.lemmas.File.{Onward, still_declared, GlobalFits, FunctionKnown, File, Moved, moved_then, moved_step, nothing_at}
 use Rattle.c_check_laws.proofs.lemmas.Names.{kept_meaning}

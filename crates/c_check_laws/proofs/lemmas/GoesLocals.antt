@@ -23,8 +23,9 @@ use Rattle.c_check_laws.proofs.lemmas.StatementSteps.{MayBegin, WellShaped, open
 use Rattle.c_check_laws.proofs.lemmas.Types.{IsNoArray, specified_no_array, open_dimensions_fit, TypeThere, object_type_typed, small_typed, LaidOrOpen}
 use Rattle.c_check_laws.proofs.lemmas.Locals.{Uncompleted, Completed, completed_fits, length_end}
 use Rattle.c_check_laws.proofs.lemmas.Declared.{set_other, changed_length, small_is, slot_of}
-use Rattle.c_check_laws.proofs.lemmas.Texts.{Texts, same_globals, no_texts, texts_then, breaks_if_quiet, specified_type_quiet}
-use Rattle.c_check_laws.proofs.lemmas.StatementTexts.{initialiser_texts, open_dimensions_texts, object_type_quiet, completed_type_quiet}
+use Rattle.c_check_laws.proofs.lemmas.Quiet.{breaks_if_quiet, specified_type_quiet, object_type_quiet, completed_type_quiet}
+use Rattle.c_check_laws.proofs.lemmas.Texts.{Texts, same_globals, no_texts, texts_then}
+use Rattle.c_check_laws.proofs.lemmas.StatementTexts.{initialiser_texts, open_dimensions_texts}
 use Rattle.c_check_laws.proofs.lemmas.Goes.{Named, AreLaid, names_typed, named_step, same_back, Goes, goes_step, goes_then, goes_more, goes_nowhere, declared_in, named_declared, AreLaidBut, laid_declared, all_laid, no_array_value}
 
 -- ---- the new variable gets its whole type

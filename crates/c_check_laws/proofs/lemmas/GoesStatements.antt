@@ -13,7 +13,8 @@ use Rattle.c_check_laws.proofs.lemmas.Terms.{InRange}
 use Rattle.c_check_laws.proofs.lemmas.Later.{later_then, step_still, HasScope, still_has_scope, entered}
 use Rattle.c_check_laws.proofs.lemmas.StatementSteps.{WellShaped, whole_steps, condition_steps, subject_steps, condition_clause_steps, value_clause_steps, jump_steps, returned_steps, label_steps, more_labels_steps, for_start_later, statement_still, items_later, groups_still}
 use Rattle.c_check_laws.proofs.lemmas.Texts.{same_globals, texts_then, expressions_texts}
-use Rattle.c_check_laws.proofs.lemmas.StatementTexts.{whole_quiet, condition_quiet, subject_quiet, condition_clause_texts, value_clause_texts, jump_quiet, returned_texts, label_texts, more_labels_texts}
+use Rattle.c_check_laws.proofs.lemmas.Quiet.{whole_quiet, condition_quiet, subject_quiet, jump_quiet}
+use Rattle.c_check_laws.proofs.lemmas.StatementTexts.{condition_clause_texts, value_clause_texts, returned_texts, label_texts, more_labels_texts}
 use Rattle.c_check_laws.proofs.lemmas.Goes.{Goes, goes_step, goes_then, goes_more, goes_nowhere, goes_within}
 use Rattle.c_check_laws.proofs.lemmas.GoesLocals.{declarations, locals_goes}
 

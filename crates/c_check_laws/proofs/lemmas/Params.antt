@@ -27,18 +27,15 @@ use Rattle.c_check_laws.proofs.lemmas.StatementSteps.{open_dimensions_steps, unl
 use Rattle.c_check_laws.proofs.lemmas.There.{IsThere}
 use Rattle.c_check_laws.proofs.lemmas.ThereExpressions.{small_type_there}
 use Rattle.c_check_laws.proofs.lemmas.Types.{IsNoArray, specified_no_array, DimensionFits, DimensionsFit, open_dimensions_fit, TypeThere, starred_typed}
-use Rattle.c_check_laws.proofs.lemmas.Texts.{Texts, same_globals, no_texts, texts_then, Quiet, breaks_if_quiet, if_some_quiet, type_if_quiet, small_type_quiet, starred_quiet, specified_type_quiet}
-use Rattle.c_check_laws.proofs.lemmas.StatementTexts.{open_dimensions_texts, unless_empty_quiet}
+use Rattle.c_check_laws.proofs.lemmas.Quiet.{Quiet, if_some_quiet, type_if_quiet, starred_quiet, specified_type_quiet, param_type_quiet, declare_if_quiet}
+use Rattle.c_check_laws.proofs.lemmas.Texts.{Texts, same_globals, no_texts, texts_then}
+use Rattle.c_check_laws.proofs.lemmas.StatementTexts.{open_dimensions_texts}
 
 -- ---- types of parameters and results
 
 adjusted_steps : (offset : ℕ) (t : MaybeType) (ds : List Dimension) → Steps (adjusted offset t ds)
 adjusted_steps offset t [] s = stay s
 adjusted_steps offset t (d ∷ ds) s = if_some_steps (elements_type t (size_of_dimension d) ds) (small_type offset) (small_type_steps offset) s
-
-adjusted_quiet : (offset : ℕ) (t : MaybeType) (ds : List Dimension) → Quiet (adjusted offset t ds)
-adjusted_quiet offset t [] s = refl
-adjusted_quiet offset t (d ∷ ds) s = if_some_quiet (elements_type t (size_of_dimension d) ds) (small_type offset) (small_type_quiet offset) s
 
 pub param_type_steps : (offset : ℕ) (x : Specified) (stars : ℕ) (ds : List Dimension) → Steps (param_type offset x stars ds)
 param_type_steps offset x stars ds s =
@@ -49,17 +46,6 @@ param_type_steps offset x stars ds s =
     step_then s u.1 _ (starred_steps (elements_specified x ds) stars offset s)
     (step_then u.1 t.1 _ (if_some_steps u.0 f (λ t. type_if_steps (not (is_param_of s.structs t ds)) offset t) u.1)
     (step_then t.1 v.1 _ (adjusted_steps offset t.0 ds t.1) (unless_empty_steps (other_is_empty ds) offset v.0 v.1)))
-
-param_type_quiet : (offset : ℕ) (x : Specified) (stars : ℕ) (ds : List Dimension) → Quiet (param_type offset x stars ds)
-param_type_quiet offset x stars ds s =
-    let u = starred (elements_specified x ds) stars offset s in
-    let f = λ (t : TypeTree). type_if (not (is_param_of s.structs t ds)) offset t in
-    let t = if_some u.0 f u.1 in
-    let v = adjusted offset t.0 ds t.1 in
-    unless_empty_quiet (other_is_empty ds) offset v.0 v.1
-    ∙ adjusted_quiet offset t.0 ds t.1
-    ∙ if_some_quiet u.0 f (λ t. type_if_quiet (not (is_param_of s.structs t ds)) offset t) u.1
-    ∙ starred_quiet (elements_specified x ds) stars offset s
 
 arrays_there : (ds : List Dimension) (t : MaybeType) → DimensionsFit ds → IsThere t → IsThere (arrays_of t (sizes_of ds))
 arrays_there [] t h k = k
@@ -222,10 +208,6 @@ declare_if_later (Some name) offset m s = declare_later name offset m s
 declare_if_same : (name : Option Name) (offset : ℕ) (m : Meaning) (s : State) → AreSame s.variables (declare_if name offset m s).1.variables
 declare_if_same None offset m s = same_self s.variables
 declare_if_same (Some name) offset m s = (breaks_if_steps (is_declared s.scopes name) Redeclared offset s).variables
-
-declare_if_quiet : (name : Option Name) (offset : ℕ) (m : Meaning) → Quiet (declare_if name offset m)
-declare_if_quiet None offset m s = refl
-declare_if_quiet (Some name) offset m s = breaks_if_quiet (is_declared s.scopes name) Redeclared offset s
 
 param_at_out : (offset : ℕ) (is_const : Bool) (specifier stars name bounds : Tree) (s : State) → InRange bounds →
     ParamsOut s (param_at offset is_const specifier stars name bounds s).1 ((param_at offset is_const specifier stars name bounds s).0 ∷ [])

@@ -25,8 +25,8 @@ use Rattle.c_check_laws.proofs.lemmas.StatementSteps.{object_type_steps}
 use Rattle.c_check_laws.proofs.lemmas.Terms.{InRange}
 use Rattle.c_check_laws.proofs.lemmas.Labels.{not_wrong}
 use Rattle.c_check_laws.proofs.lemmas.Types.{IsNoArray, specified_no_array, IsSize, DimensionsFit, size_fits, object_type_typed, LaidOrOpen}
-use Rattle.c_check_laws.proofs.lemmas.Texts.{Texts, same_globals, no_texts, texts_then, breaks_if_quiet, specified_type_quiet, dimensions_texts}
-use Rattle.c_check_laws.proofs.lemmas.StatementTexts.{object_type_quiet}
+use Rattle.c_check_laws.proofs.lemmas.Quiet.{breaks_if_quiet, specified_type_quiet, object_type_quiet}
+use Rattle.c_check_laws.proofs.lemmas.Texts.{Texts, same_globals, no_texts, texts_then, dimensions_texts}
 use Rattle.c_check_laws.proofs.lemmas.File.{Onward, still_declared, known_later, file_more, File, Moved, moved_then, moved_step}
 
 -- ---- members

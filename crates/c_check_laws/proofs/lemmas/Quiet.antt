@@ -1,4 +1,4 @@
--- Steps that add no global: those without trees.
+-- Steps that add no global.
 use Rattle.std.proofs.Common.{◌≡◌, ℕ, zero, suc, Bool, true, false, List, [], ◌∷◌, length, refl, ◌∙◌}
 use Rattle.std.specs.Prelude.{slice_get, not, ◌||◌, ◌&&◌, nat_le, Option, None, Some, option_and_then, if◌then◌else◌}
 use Rattle.c_ast.specs.declared.operator.Selection.{Selection}
@@ -7,7 +7,8 @@ use Rattle.c_ast.specs.declared.operator.UnaryOp.{UnaryOp}
 use Rattle.c_ast.specs.declared.operator.UnaryOp.TheVariants as unary_operator
 use Rattle.c_ast.specs.declared.operator.BinaryOp.{BinaryOp}
 use Rattle.c_ast.specs.declared.operator.AssignOp.{AssignOp}
-use Rattle.c_ast.specs.Tree.{Tree}
+use Rattle.c_ast.specs.Productions as l
+use Rattle.c_ast.specs.Tree.{Tree, Node, Cons}
 use Rattle.c_type.specs.Trees.{TypeTree}
 use Rattle.c_typed.specs.Typed as typed
 use Rattle.c_typed.specs.Typed.{place, local, global, at, member, ElementTrees, StmtTree}
@@ -20,21 +21,39 @@ use Rattle.c_check_scope.specs.Names.{number_of}
 use Rattle.c_check_scope.specs.Members.{member_number}
 use Rattle.c_check_def.specs.declared.meaning.Meaning.{Meaning}
 use Rattle.c_check_def.specs.declared.meaning.Meaning.TheVariants as means
+use Rattle.c_check_def.specs.declared.refusal_kind.RefusalKind.{RefusalKind}
 use Rattle.c_check_def.specs.declared.refusal_kind.RefusalKind.TheVariants.{NotAssignable, NotConstant, BadCall, BadInitialiser, BadJump, BadLabel, Redeclared}
 use Rattle.c_check_def.specs.declared.call.Callee.{Callee}
 use Rattle.c_check_def.specs.declared.call.Called.{Called}
 use Rattle.c_check_def.specs.declared.call.Called.TheVariants as calls
 use Rattle.c_check_def.specs.declared.dimension.Dimension.{Dimension}
-use Rattle.c_check_def.specs.State.{MaybeType, Declared, pure, breaks_if, broken_at, or_broken, if_some, meaning_of, declare}
-use Rattle.c_check_def.specs.Specifiers.{Specified}
-use Rattle.c_check_def.specs.DeclaredTypes.{MaybeSize, arrays_of, sizes_of, size_of_dimension, type_if, small_type, unless_empty, starred, named_type, is_object_of, object_type, is_param_of, elements_specified, elements_type, adjusted, param_type, other_is_empty, first_is_empty}
+use Rattle.c_check_def.specs.State.{MaybeType, Declared, State, Elaborated, pure, breaks_if, broken_at, or_broken, if_some, meaning_of, tag_of, declare}
+use Rattle.c_check_def.specs.Leaves.{offset_of, name_of}
+use Rattle.c_check_def.specs.Specifiers.{Specified, specified_type, tagged}
+use Rattle.c_check_def.specs.DeclaredTypes.{MaybeSize, unstarred, with_elements, is_large, is_void, pointers_to, arrays_of, sizes_of, size_of_dimension, type_if, small_type, unless_empty, starred, named_type, is_object_of, object_type, is_param_of, elements_specified, elements_type, adjusted, param_type, other_is_empty, first_is_empty}
 use Rattle.c_check_def.specs.Operands.{Term, term_meant, named, binary, conditional, indexed, cast, measured, take_address, address, unary_of, unary, target, stepped, assigned, member_numbered, selected, Sequence, comma}
 use Rattle.c_check_def.specs.Calls.{callee_of, callee_numbered, called_meant, called_name, all_fit, call_term, call_of, called}
+use Rattle.c_check_def.specs.Expressions.{size}
 use Rattle.c_check_def.specs.Initialisers.{converted, value_read, characters, parts_of, takes, list_for, completed}
 use Rattle.c_check_def.specs.Declarators.{completed_type}
 use Rattle.c_check_def.specs.Statements.{whole, condition, subject, jump, Labels, case_label}
 use Rattle.c_check_def.specs.Externals.{may_follow, function_meant, declare_function, declare_if}
-use Rattle.c_check_laws.proofs.lemmas.Texts.{Quiet, breaks_if_quiet, or_broken_quiet, if_some_quiet, type_if_quiet, small_type_quiet, starred_quiet}
+
+-- no global is added
+abbrev pub Quiet : {A : Type 0} → Elaborated A → Type 0
+Quiet m = (s : State) → (m s).1.globals ≡ s.globals
+
+pub breaks_if_quiet : (wrong : Bool) (rule : RefusalKind) (offset : ℕ) → Quiet (breaks_if wrong rule offset)
+breaks_if_quiet true rule offset s = refl
+breaks_if_quiet false rule offset s = refl
+
+pub or_broken_quiet : {A : Type 0} → (rule : RefusalKind) (offset : ℕ) (o : Option A) → Quiet (or_broken rule offset o)
+or_broken_quiet rule offset None s = refl
+or_broken_quiet rule offset (Some a) s = refl
+
+pub if_some_quiet : {A B : Type 0} → (o : Option A) (f : A → Elaborated (Option B)) → ((a : A) → Quiet (f a)) → Quiet (if_some o f)
+if_some_quiet None f h s = refl
+if_some_quiet (Some a) f h s = h a s
 
 -- ---- operands
 
@@ -146,6 +165,32 @@ called_quiet offset (calls.Function callee k) xs s = call_of_quiet offset callee
 
 -- ---- types
 
+tag_of_quiet : (name : Name) → Quiet (tag_of name)
+tag_of_quiet name s = refl
+
+pub tagged_quiet : (name : Name) (offset : ℕ) → Quiet (tagged name offset)
+tagged_quiet name offset s = tag_of_quiet name s
+
+pub specified_type_quiet : (t : Tree) → Quiet (specified_type t)
+specified_type_quiet (Node l.Signed (Cons sign (Cons base more))) s = refl
+specified_type_quiet (Node l.StructTag (Cons word (Cons tag more))) s = tagged_quiet (name_of tag) (offset_of tag) s
+specified_type_quiet t s = refl
+
+pub type_if_quiet : (wrong : Bool) (offset : ℕ) (t : TypeTree) → Quiet (type_if wrong offset t)
+type_if_quiet true offset t s = refl
+type_if_quiet false offset t s = refl
+
+pub small_type_quiet : (offset : ℕ) (t : TypeTree) → Quiet (small_type offset t)
+small_type_quiet offset t s = type_if_quiet (is_large s.structs (with_elements t)) offset t s
+
+unstarred_quiet : (undeclared : Option ℕ) (t : TypeTree) → Quiet (unstarred undeclared t)
+unstarred_quiet None t s = refl
+unstarred_quiet (Some tag) t s = refl
+
+pub starred_quiet : (x : Specified) (stars offset : ℕ) → Quiet (starred x stars offset)
+starred_quiet x zero offset s = unstarred_quiet x.undeclared x.type s
+starred_quiet x (suc n) offset s = type_if_quiet (is_void x.type) offset (pointers_to x.type (suc n)) s
+
 pub named_type_quiet : (offset : ℕ) (x : Specified) (stars : ℕ) (ns : List MaybeSize) → Quiet (named_type offset x stars ns)
 named_type_quiet offset x stars ns s =
     let r = starred x stars offset s in if_some_quiet (arrays_of r.0 ns) (small_type offset) (small_type_quiet offset) r.1 ∙ starred_quiet x stars offset s
@@ -153,6 +198,9 @@ named_type_quiet offset x stars ns s =
 unless_empty_quiet : (wrong : Bool) (offset : ℕ) (t : MaybeType) → Quiet (unless_empty wrong offset t)
 unless_empty_quiet true offset t s = refl
 unless_empty_quiet false offset t s = refl
+
+pub size_quiet : (offset : ℕ) (a : Term) → Quiet (size offset a)
+size_quiet offset a s = or_broken_quiet _ offset _ s
 
 pub object_type_quiet : (may : Bool) (offset : ℕ) (x : Specified) (stars : ℕ) (ds : List Dimension) → Quiet (object_type may offset x stars ds)
 object_type_quiet may offset x stars ds s =
