@@ -18,7 +18,7 @@ use Rattle.c_operator_def.specs.Types.{is_scalar, is_unsigned, are_unsigned, lai
 use Rattle.c_operator_def.specs.Conversions.{converted, promoted, converts}
 use Rattle.c_operator_def.specs.Assignments.{target_place, plain_assigned, integers_by, shifted_by, moved, increased_by, decreased_by, place_assigned, assigned_typed, stepped, step_bytes, is_up, place_stepped, step_typed}
 use Rattle.c_check_laws.specs.TypedOperands.{IfSome, OperandIsTyped, ObjectsFit}
-use Rattle.c_check_laws.proofs.lemmas.Options.{and_then_holds, map_holds, if_holds}
+use Rattle.c_check_laws.proofs.Options.{and_then_holds, map_holds, if_holds}
 use Rattle.c_check_laws.proofs.Values.{value_typed, scalar_is, unsigned_promoted, promoted_scalar, ValueOf, converted_typed, promoted_typed, converts_typed}
 use Rattle.c_check_laws.proofs.Binary.{SizeOf, size_found, AreOperations, AreShifts, mul_serves, div_serves, rem_serves, and_serves, or_serves, xor_serves, add_serves, sub_serves, left_shifts, right_shifts}
 

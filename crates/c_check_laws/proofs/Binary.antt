@@ -24,7 +24,7 @@ use Rattle.c_operator_def.specs.Arithmetic.{chosen, two, two_where, arithmetic, 
 use Rattle.c_operator_def.specs.Operators.{on_values, both, either, values_joined, binary_typed, choice_by, choice_of, condition_of, conditional_typed}
 use Rattle.c_operator_def.proofs.lemmas.SameType.{same_type-true}
 use Rattle.c_check_laws.specs.TypedOperands.{IfSome, OperandIsTyped, ObjectsFit}
-use Rattle.c_check_laws.proofs.lemmas.Options.{and_then_holds, map_holds, if_holds}
+use Rattle.c_check_laws.proofs.Options.{and_then_holds, map_holds, if_holds}
 use Rattle.c_check_laws.proofs.Values.{value_typed, unsigned_promoted, promoted_scalar, ScalarValue, scalar_value, converted_typed, promoted_typed}
 
 -- ---- sizes

@@ -3,3 +3,4 @@ mod Assigning
 mod Binary
 mod Operators
 mod Values
+mod Options

@@ -17,7 +17,7 @@ use Rattle.c_operator_def.specs.Operands.{value_of, if_scalar}
 use Rattle.c_operator_def.specs.Types.{is_unsigned, laid_out_size}
 use Rattle.c_operator_def.specs.Operators.{plus_by, minus_by, complement_by, negation, pointed_by, pointed, value_joined, address_of, unary_typed, has_const_elements, element_by, element, index_typed, selected, member_by, member_of, member_typed, cast_by, cast_typed, size_typed, binary_typed}
 use Rattle.c_check_laws.specs.TypedOperands.{IfSome, OperandIsTyped, ObjectsFit, MayBeTaken}
-use Rattle.c_check_laws.proofs.lemmas.Options.{and_then_holds, map_holds, if_holds}
+use Rattle.c_check_laws.proofs.Options.{and_then_holds, map_holds, if_holds}
 use Rattle.c_check_laws.proofs.Values.{value_typed, unsigned_promoted, ScalarValue, scalar_value, converted_typed, promoted_typed}
 use Rattle.c_check_laws.proofs.Binary.{SizeOf, size_found, binary_is_typed}
 

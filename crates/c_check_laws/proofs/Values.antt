@@ -14,7 +14,7 @@ use Rattle.c_operator_def.specs.Types.{is_scalar, same_type, is_unsigned, promot
 use Rattle.c_operator_def.specs.Conversions.{converted, promoted, may_convert, converts}
 use Rattle.c_operator_def.proofs.lemmas.SameType.{same_type-refl, same_type-true}
 use Rattle.c_check_laws.specs.TypedOperands.{IfSome, OperandIsTyped, ObjectsFit}
-use Rattle.c_check_laws.proofs.lemmas.Options.{if_holds}
+use Rattle.c_check_laws.proofs.Options.{if_holds}
 
 -- ---- operands
 

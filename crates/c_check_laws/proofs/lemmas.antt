@@ -1,4 +1,3 @@
-pub mod Options
 pub mod States
 pub mod Steps
 pub mod Terms

@@ -9,8 +9,8 @@ use Rattle.c_mean.specs.Statements.{stmt_run}
 use Rattle.c_mean.specs.Run.{objects_of, function_run, nested, global_address, first_memory, finished, run}
 use Rattle.c_mean.specs.RunLaws.{Extends, ExpressionsExtend, StatementsExtend, NestedCallsExtend, CallsExtend, RunsExtend, DeepestGrows}
 use Rattle.c_mean.proofs.Extends.{extends-itself, extends-then, extends-defined, extends-active, extends-deepest}
-use Rattle.c_mean.proofs.lemmas.ExtendExpressions.{expr-extends}
-use Rattle.c_mean.proofs.lemmas.ExtendStatements.{stmt-extends, items-extend}
+use Rattle.c_mean.proofs.ExtendExpressions.{expr-extends}
+use Rattle.c_mean.proofs.ExtendStatements.{stmt-extends, items-extend}
 
 pub expressions_extend : ExpressionsExtend
 expressions_extend c d h e s =

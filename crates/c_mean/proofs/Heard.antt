@@ -12,7 +12,7 @@ use Rattle.c_typed.specs.Typed.{ProgramTree}
 use Rattle.c_mean.specs.Run.{call_run, global_address, first_memory, finished, run, cut, undefined, taken, heard_as}
 use Rattle.c_mean.specs.RunLaws.{Extends, taken_bytes, TakesInput, HearsAnswer, HeardIsRun, HeardIsUndefined, HeardExtends}
 use Rattle.c_mean.proofs.ExtendRuns.{runs_extend}
-use Rattle.c_mean.proofs.lemmas.TakenExpressions.{of_given}
+use Rattle.c_mean.proofs.TakenExpressions.{of_given}
 use Rattle.c_mean.proofs.TakenRuns.{runs_take_input}
 
 abbrev Never : Given (Option Value) → Type 0

@@ -1,6 +1,10 @@
 mod examples
-pub mod lemmas
 mod ExtendRuns
 mod Extends
 mod Heard
 mod TakenRuns
+mod ExtendExpressions
+mod ExtendStatements
+mod Taken
+mod TakenExpressions
+mod TakenStatements

@@ -12,9 +12,9 @@ use Rattle.c_mean.specs.Expressions.{Call, Context, expr_run}
 use Rattle.c_mean.specs.Statements.{stmt_run, items_run}
 use Rattle.c_mean.specs.Run.{objects_of, params_in_scope, params_stored, ended, function_run, nested, call_run, global_address, first_memory, finished, run}
 use Rattle.c_mean.specs.RunLaws.{ExpressionsTakeInput, StatementsTakeInput, NestedCallsTakeInput, CallsTakeInput, RunsTakeInput}
-use Rattle.c_mean.proofs.lemmas.Taken.{Takes, takes-law, law-takes, takes-then, takes-defined, takes-number, takes-active}
-use Rattle.c_mean.proofs.lemmas.TakenExpressions.{of_value, of_given, expr-takes}
-use Rattle.c_mean.proofs.lemmas.TakenStatements.{of_flow, stmt-takes, items-take}
+use Rattle.c_mean.proofs.Taken.{Takes, takes-law, law-takes, takes-then, takes-defined, takes-number, takes-active}
+use Rattle.c_mean.proofs.TakenExpressions.{of_value, of_given, expr-takes}
+use Rattle.c_mean.proofs.TakenStatements.{of_flow, stmt-takes, items-take}
 
 pub expressions_take_input : ExpressionsTakeInput
 expressions_take_input c h e s =

@@ -7,9 +7,9 @@ use Rattle.g_graph.specs.Count.{saturated}
 use Rattle.g_build_def.specs.Exits.{body_jumps}
 use Rattle.g_build_def.specs.Functions.{function_values}
 use Rattle.g_build_count.specs.Values.{more_carried, items_values, straight_values, objects_of, params_values, value_params, entered_values}
-use Rattle.g_build_count.proofs.lemmas.HasDeclarations.{no_more}
+use Rattle.g_build_count.proofs.HasDeclarations.{no_more}
 use Rattle.g_build_count.proofs.Near.{Near, near_itself, near_saturated, near_add, more_near, items_near, straight_near}
-use Rattle.g_build_count.proofs.lemmas.HasFunctions.{values_counted}
+use Rattle.g_build_count.proofs.HasFunctions.{values_counted}
 
 entered_near : {c d : ℕ} → Near c d → (f : FunctionTree) (j : Bool) (ps : List VariableTree) (os : List Bool) → Near (entered_values f j ps c os) (entered_values f j ps d os)
 entered_near h f true [] os = near_add (near_itself 4) (items_near h f.variables os f.body)

@@ -35,19 +35,19 @@ use Rattle.g_mean.specs.Calls.{sizes_of, inside, entered}
 use Rattle.g_mean.specs.LessDefined.{AreSound}
 use Rattle.g_build_keeps.specs.Laws.{GivesBack}
 use Rattle.g_build_keeps.specs.Groups.{ItemsHaveFewGroups, HasFewGroups}
-use Rattle.g_build_keeps.proofs.lemmas.Readings.{IsSoundRun}
-use Rattle.g_build_keeps.proofs.lemmas.Toolbox.{Ran, Simulates, sim-bind}
-use Rattle.g_build_keeps.proofs.lemmas.Held.{Holds}
-use Rattle.g_build_keeps.proofs.lemmas.Claims.{BoundsFit, ContextsFit}
-use Rattle.g_build_keeps.proofs.lemmas.Expressions.{expr-sim}
-use Rattle.g_build_keeps.proofs.lemmas.Turns.{Stepped}
-use Rattle.g_build_keeps.proofs.lemmas.Declarations.{framed}
-use Rattle.g_build_keeps.proofs.lemmas.Objects.{in_memory}
-use Rattle.g_build_keeps.proofs.lemmas.Begun.{declaration-sim}
-use Rattle.g_build_keeps.proofs.lemmas.Induction.{ObjectsFit, initial-claims, stmt-sim, items-sim}
-use Rattle.g_build_keeps.proofs.lemmas.Blocks.{same-shapes, same-sizes, same-count, objects-fit}
-use Rattle.g_build_keeps.proofs.lemmas.Starts.{arguments-are, memory-at, first_state, start-holds, params_later, params-sim}
-use Rattle.g_build_keeps.proofs.lemmas.Bodies.{Ends, BodyClaim, body-end, body-value, body-none, body-then, body-declare, jumping-ends, jumps-begin}
+use Rattle.g_build_keeps.proofs.Readings.{IsSoundRun}
+use Rattle.g_build_keeps.proofs.Toolbox.{Ran, Simulates, sim-bind}
+use Rattle.g_build_keeps.proofs.Held.{Holds}
+use Rattle.g_build_keeps.proofs.Claims.{BoundsFit, ContextsFit}
+use Rattle.g_build_keeps.proofs.Expressions.{expr-sim}
+use Rattle.g_build_keeps.proofs.Turns.{Stepped}
+use Rattle.g_build_keeps.proofs.Declarations.{framed}
+use Rattle.g_build_keeps.proofs.Objects.{in_memory}
+use Rattle.g_build_keeps.proofs.Begun.{declaration-sim}
+use Rattle.g_build_keeps.proofs.Induction.{ObjectsFit, initial-claims, stmt-sim, items-sim}
+use Rattle.g_build_keeps.proofs.Blocks.{same-shapes, same-sizes, same-count, objects-fit}
+use Rattle.g_build_keeps.proofs.Starts.{arguments-are, memory-at, first_state, start-holds, params_later, params-sim}
+use Rattle.g_build_keeps.proofs.Bodies.{Ends, BodyClaim, body-end, body-value, body-none, body-then, body-declare, jumping-ends, jumps-begin}
 use Rattle.g_build_keeps.proofs.Programs.{CallsFit, CallsAreSound, BodiesFit}
 
 -- ---- bodies without jumps

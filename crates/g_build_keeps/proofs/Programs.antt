@@ -24,7 +24,7 @@ use Rattle.g_mean.proofs.lemmas.LessDefined.{less-kept}
 use Rattle.g_mean.proofs.lemmas.Regions.{less-cut, far-cut}
 use Rattle.g_mean.proofs.lemmas.Bounds.{applied-more}
 use Rattle.g_build_keeps.specs.Laws.{GivesBack, HasMeaning}
-use Rattle.g_build_keeps.proofs.lemmas.Claims.{BoundsFit}
+use Rattle.g_build_keeps.proofs.Claims.{BoundsFit}
 
 -- calls of each function do the same, on as many arguments as it has parameters and on sound data
 abbrev pub CallsFit : Direction → ProgramTree → (ℕ → Call) → (ℕ → Meaning) → Type 0

@@ -26,7 +26,7 @@ use Rattle.g_build_keeps.specs.Laws.{GivesBack, StartsAsProgram}
 use Rattle.g_build_keeps.specs.Groups.{HasFewGroups}
 use Rattle.g_build_keeps.proofs.Programs.{BodiesFit, forward-fits, backward-fits}
 use Rattle.g_build_keeps.proofs.Functions.{bodies-fit}
-use Rattle.g_build_keeps.proofs.lemmas.Globals.{addresses-same, memory-same, first-sound}
+use Rattle.g_build_keeps.proofs.Globals.{addresses-same, memory-same, first-sound}
 
 -- ---- `main` is found by its name
 

@@ -23,10 +23,10 @@ use Rattle.g_graph_laws.proofs.lemmas.Joins.{weaken}
 use Rattle.g_build_def.specs.Writer.{held, object, straight}
 use Rattle.g_build_def.specs.Functions.{params_carried, start_of, body_built, objects_made, body_made, next_number, lambda_made, graph}
 use Rattle.g_build_def.proofs.lemmas.Programs.{lambdas_stand_at_their_numbers}
-use Rattle.g_build_laws.proofs.lemmas.Stands.{Frame, Mark, a_value, an_object, SlotsFit, Stands}
-use Rattle.g_build_laws.proofs.lemmas.Parts.{at_start_old}
-use Rattle.g_build_laws.proofs.lemmas.Places.{shown}
-use Rattle.g_build_laws.proofs.lemmas.Expressions.{FitsScope}
+use Rattle.g_build_laws.proofs.Stands.{Frame, Mark, a_value, an_object, SlotsFit, Stands}
+use Rattle.g_build_laws.proofs.Parts.{at_start_old}
+use Rattle.g_build_laws.proofs.Places.{shown}
+use Rattle.g_build_laws.proofs.Expressions.{FitsScope}
 use Rattle.g_build_laws.proofs.lemmas.Bodies.{Either, ParamsFit, Ended, body_ok}
 
 abbrev is_object : VariableTree → Bool

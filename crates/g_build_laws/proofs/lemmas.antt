@@ -1,8 +1,3 @@
-pub mod Stands
-pub mod Parts
-mod Operations
-pub mod Places
-pub mod Expressions
 pub mod Exits
 mod Jumps
 mod Switches

@@ -16,7 +16,7 @@ use Rattle.g_graph.proofs.lemmas.KindLists.{are_themselves, kinds_of_some}
 use Rattle.g_graph.proofs.lemmas.Indexes.{gives_last}
 use Rattle.g_graph_laws.specs.Formation.{Standing, at_start, after_node, Has, HasAll, HasBothStates, AreSome, IsOne, NodeForms, NodesForm, RegionForms, RegionsForm}
 use Rattle.g_graph_laws.proofs.lemmas.Joins.{Ends}
-use Rattle.g_graph_laws.proofs.lemmas.Agree.{Agrees, agrees_start, agrees_node}
+use Rattle.g_graph_laws.proofs.Agree.{Agrees, agrees_start, agrees_node}
 use Rattle.g_graph_laws.proofs.Outputs.{has_kinds, outputs_are, results_are, nodes_lead}
 use Rattle.g_graph.proofs.lemmas.KindLists.{some_kind}
 

@@ -3,3 +3,4 @@ mod FormationLemmas
 mod Fits
 mod Once
 mod Outputs
+mod Agree

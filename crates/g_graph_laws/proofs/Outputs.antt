@@ -13,7 +13,7 @@ use Rattle.g_graph.specs.Splice.{joined_nodes}
 use Rattle.g_graph.proofs.lemmas.Splices.{joined_none, joined_following}
 use Rattle.g_graph_laws.specs.Formation.{Standing, at_start, after_node, Has, HasAll, HasBothStates, AreSome, IsOne, NodeForms, NodesForm, RegionForms, RegionsForm}
 use Rattle.g_graph_laws.proofs.lemmas.Joins.{Ends}
-use Rattle.g_graph_laws.proofs.lemmas.Agree.{Agrees, agrees_start, agrees_node}
+use Rattle.g_graph_laws.proofs.Agree.{Agrees, agrees_start, agrees_node}
 
 has_kind : (c : Standing) (k : Kind) (o : Origin) → Has c k o → c.kind o ≡ Some k
 has_kind c Value o h = h

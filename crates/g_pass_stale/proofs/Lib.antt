@@ -1,6 +1,6 @@
-pub mod lemmas
 mod Rows
 mod Settled
 mod ByRank
 mod Changed
 mod RankByRank
+mod Unstale

@@ -4,7 +4,7 @@ use Rattle.std.specs.Prelude.{◌↔◌, not}
 use Rattle.std.proofs.lemmas.Bool.{cases_eq}
 use Rattle.call_order.specs.Units.{Reaches}
 use Rattle.g_pass_stale.specs.Ranks.{IsSettled}
-use Rattle.g_pass_stale.proofs.lemmas.Unstale.{at-deps, from-deps}
+use Rattle.g_pass_stale.proofs.Unstale.{at-deps, from-deps}
 
 module _ (deps : List (List ℕ)) (changed : List Bool) where
   -- nothing to which the function leads has changed

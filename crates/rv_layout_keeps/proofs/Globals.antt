@@ -4,9 +4,9 @@ use Rattle.g_mean.specs.Calls.{global_of}
 use Rattle.rv_layout.specs.Layout.{fixed_address, data_address}
 use Rattle.s_select_keeps.specs.LaidFunctions.{function_items}
 use Rattle.rv_layout_keeps.specs.Globals.{GlobalsAreShown, GlobalsHaveBlocks}
-use Rattle.rv_layout_keeps.proofs.lemmas.Loaded.{other_end}
-use Rattle.rv_layout_keeps.proofs.lemmas.Blocks.{has_global, no_address, length_blocks, stack_is_outside, buffer_is_outside, global_address}
-use Rattle.rv_layout_keeps.proofs.lemmas.Values.{globals_show_memory}
+use Rattle.rv_layout_keeps.proofs.Loaded.{other_end}
+use Rattle.rv_layout_keeps.proofs.Blocks.{has_global, no_address, length_blocks, stack_is_outside, buffer_is_outside, global_address}
+use Rattle.rv_layout_keeps.proofs.Values.{globals_show_memory}
 
 pub globals_are_shown : GlobalsAreShown
 globals_are_shown fs ds main can sound globals = globals_show_memory (map function_items fs) ds main can sound globals

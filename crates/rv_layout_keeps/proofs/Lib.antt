@@ -1,3 +1,9 @@
 mod Examples
-pub mod lemmas
 mod Globals
+mod Addresses
+mod Bytes
+mod Leaves
+mod Segments
+mod Loaded
+mod Blocks
+mod Values

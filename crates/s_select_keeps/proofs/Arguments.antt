@@ -20,10 +20,10 @@ use Rattle.s_select_keeps.specs.Arguments.{ArgumentsAreLoaded, ParamsArePut}
 use Rattle.s_select_keeps.specs.Relation.{IsPlaceRegister, Shows, Frame, HasWords, Represents}
 use Rattle.s_select_keeps.specs.Steps.{Steps, Arrives}
 use Rattle.s_select_keeps.specs.Table.{place_at}
-use Rattle.s_select_keeps.proofs.lemmas.Locations.{kept-apart, kept-argument, location-fits, LocationFits, IsOtherRegister}
-use Rattle.s_select_keeps.proofs.lemmas.Operands.{get-done, put-done, Writes}
-use Rattle.s_select_keeps.proofs.lemmas.Registers.{Computes, steps-none, steps-then, code-le}
-use Rattle.s_select_keeps.proofs.lemmas.Represented.{kept-represents, place-represents}
+use Rattle.s_select_keeps.proofs.Locations.{kept-apart, kept-argument, location-fits, LocationFits, IsOtherRegister}
+use Rattle.s_select_keeps.proofs.Operands.{get-done, put-done, Writes}
+use Rattle.s_select_keeps.proofs.Registers.{Computes, steps-none, steps-then, code-le}
+use Rattle.s_select_keeps.proofs.Represented.{kept-represents, place-represents}
 
 pub place-below : (p : PlainPlaces) (places : ℕ) → places ≡ p.count → (x : ℕ) → has_place p x ≡ true → place_at p x < places
 place-below p places same x e =

@@ -23,10 +23,10 @@ use Rattle.s_select_keeps.specs.Codes.{InstrFits, CodeIsDone}
 use Rattle.s_select_keeps.specs.Relation.{Bases, LivesAlike, Frame, at_bases, Represents}
 use Rattle.s_select_keeps.specs.Steps.{Follows}
 use Rattle.s_select_keeps.specs.Table.{place_at, ObjectStands, IsBody, IsPlain, InstrIsDone}
-use Rattle.s_select_keeps.proofs.lemmas.Codes.{code-follows}
-use Rattle.s_select_keeps.proofs.lemmas.Follows.{InstrFollows}
-use Rattle.s_select_keeps.proofs.lemmas.Outcomes.{Reached, Outcome}
-use Rattle.s_select_keeps.proofs.lemmas.Stores.{SameBlocks, alike, alike-back, live-same}
+use Rattle.s_select_keeps.proofs.Codes.{code-follows}
+use Rattle.s_select_keeps.proofs.Follows.{InstrFollows}
+use Rattle.s_select_keeps.proofs.Outcomes.{Reached, Outcome}
+use Rattle.s_select_keeps.proofs.Stores.{SameBlocks, alike, alike-back, live-same}
 
 module _ (text : Text) (f : Frame) (addresses : Addresses) (p : PlainPlaces) (os : List PlainObject) (c : Context) where
   pub body-same : (m m' : mem.Memory) → LivesAlike m m' → IsBody text f addresses p os c.addresses m → IsBody text f addresses p os c.addresses m'

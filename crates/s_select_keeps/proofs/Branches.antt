@@ -12,10 +12,10 @@ use Rattle.s_select_keeps.specs.Relation.{IsKept, Shows, Frame, HasWords, Repres
 use Rattle.s_select_keeps.specs.Steps.{Steps, Arrives}
 use Rattle.s_select_keeps.specs.Branches.{OffsetLeads, JumpIsDone, BranchNotZeroIsDone, BranchZeroIsDone, BranchEqualIsDone}
 use Rattle.rv_machine.proofs.lemmas.Standing.{code_is_cut}
-use Rattle.s_select_keeps.proofs.lemmas.Registers.{steps-then, step-to, look-at, code-le, immediate-loads}
-use Rattle.s_select_keeps.proofs.lemmas.Locations.{kept-apart, location-fits}
-use Rattle.s_select_keeps.proofs.lemmas.Represented.{kept-represents}
-use Rattle.s_select_keeps.proofs.lemmas.Templates.{in-apart, loads}
+use Rattle.s_select_keeps.proofs.Registers.{steps-then, step-to, look-at, code-le, immediate-loads}
+use Rattle.s_select_keeps.proofs.Locations.{kept-apart, location-fits}
+use Rattle.s_select_keeps.proofs.Represented.{kept-represents}
+use Rattle.s_select_keeps.proofs.Templates.{in-apart, loads}
 
 pub offset_leads : OffsetLeads
 offset_leads from to low high = omega (arith, low, high)

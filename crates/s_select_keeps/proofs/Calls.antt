@@ -9,7 +9,7 @@ use Rattle.rv_layout.specs.Layout.{offset_to}
 use Rattle.rv_machine.specs.Standing.{StandsAt}
 use Rattle.s_select_keeps.specs.Steps.{Steps}
 use Rattle.s_select_keeps.specs.Calls.{CallLeads, ReturnLeads}
-use Rattle.s_select_keeps.proofs.lemmas.Registers.{steps-then, step-to, set-same, set-other}
+use Rattle.s_select_keeps.proofs.Registers.{steps-then, step-to, set-same, set-other}
 use Rattle.s_select_keeps.proofs.Branches.{offset_leads}
 
 -- an even address is kept

@@ -20,12 +20,12 @@ use Rattle.s_select_keeps.specs.Relation.{IsKept, Bases, Shows, Lives, BlockFits
 use Rattle.s_select_keeps.specs.Steps.{Steps, Arrives}
 use Rattle.s_select_keeps.specs.Memories.{ClearIsDone}
 use Rattle.rv_machine.proofs.lemmas.Standing.{code_is_cut}
-use Rattle.s_select_keeps.proofs.lemmas.Registers.{Computes, steps-then, step-to, look-at, code-le, first-computes, code-after, immediate-loads}
-use Rattle.s_select_keeps.proofs.lemmas.Locations.{kept-apart}
-use Rattle.s_select_keeps.proofs.lemmas.Operands.{stored, store-acts}
+use Rattle.s_select_keeps.proofs.Registers.{Computes, steps-then, step-to, look-at, code-le, first-computes, code-after, immediate-loads}
+use Rattle.s_select_keeps.proofs.Locations.{kept-apart}
+use Rattle.s_select_keeps.proofs.Operands.{stored, store-acts}
 use Rattle.s_select_keeps.proofs.lemmas.Blocks.{before-or-after, leaf-of-value, value-there, leaf-there}
-use Rattle.s_select_keeps.proofs.lemmas.Stores.{SameBlocks, same-back, fellow, alike, leaf-same, laid-same}
-use Rattle.s_select_keeps.proofs.lemmas.Represented.{memory-written}
+use Rattle.s_select_keeps.proofs.Stores.{SameBlocks, same-back, fellow, alike, leaf-same, laid-same}
+use Rattle.s_select_keeps.proofs.Represented.{memory-written}
 
 -- the bytes of a zero that is stored
 zero-stored : (mem : Bytes) (a n : ℕ) → a ≤ n → n < a + 4 → store_bytes mem a 0 4 n ≡ 0

@@ -15,9 +15,9 @@ use Rattle.s_select_keeps.specs.Relation.{Shows}
 use Rattle.s_select_keeps.specs.Steps.{Steps, Exits}
 use Rattle.s_select_keeps.specs.Branches.{ExitIsDone}
 use Rattle.rv_machine.proofs.lemmas.Standing.{fetched-there, code_is_cut}
-use Rattle.s_select_keeps.proofs.lemmas.Registers.{Computes, steps-then, code-le, first-computes, code-after}
-use Rattle.s_select_keeps.proofs.lemmas.Locations.{location-fits}
-use Rattle.s_select_keeps.proofs.lemmas.Operands.{get-done}
+use Rattle.s_select_keeps.proofs.Registers.{Computes, steps-then, code-le, first-computes, code-after}
+use Rattle.s_select_keeps.proofs.Locations.{location-fits}
+use Rattle.s_select_keeps.proofs.Operands.{get-done}
 
 -- the environment call, where the registers say so
 pub ends : (text : Text) (s t : State) (w : ℕ) → Steps text.flags s t → HasText text t.mem → StandsAt text t.pc Ecall → t.regs a7 ≡ exit_call → t.regs a0 ≡ w

@@ -25,7 +25,7 @@ use Rattle.s_select.specs.declared.location.Location.TheVariants.{Register, Near
 use Rattle.s_select.specs.Operands.{negative, place_register, load_immediate, get, put, in_of, load_in, out_of, store_out}
 use Rattle.s_select.specs.Templates.{words, save_places, restore_places, take_frame, give_frame, binary_code, unary_code, load_instr, store_instr, with_two, with_one, with_none, move_code, clear_code}
 use Rattle.s_select_keeps.specs.Formats.{WordsFit, ItemsFit}
-use Rattle.s_select_keeps.proofs.lemmas.Locations.{register-is-place}
+use Rattle.s_select_keeps.proofs.Locations.{register-is-place}
 use Rattle.s_select_keeps.specs.Relation.{IsPlaceRegister}
 
 pub words-fit : (code : List Instr) → AllFit code → WordsFit (words code)

@@ -15,10 +15,10 @@ use Rattle.s_select.specs.Templates.{give_frame, save_places, restore_places}
 use Rattle.s_select_keeps.specs.Frames.{HasStack, IsFrameSize, FrameIsTaken, StackIsExceeded, GivenBack, HasFrame, FrameIsGiven}
 use Rattle.s_select_keeps.specs.Steps.{Steps}
 use Rattle.s_select_keeps.proofs.Calls.{return_leads}
-use Rattle.s_select_keeps.proofs.lemmas.Locations.{place-above, register-is-place}
-use Rattle.s_select_keeps.proofs.lemmas.Operands.{load-acts, store-acts, stored}
-use Rattle.s_select_keeps.proofs.lemmas.Registers.{Computes, steps-then, step-to, code-le, first-computes, code-after, immediate-loads}
-use Rattle.s_select_keeps.proofs.lemmas.Saves.{text-left, word-place, Saves, saves, Restores, restores}
+use Rattle.s_select_keeps.proofs.Locations.{place-above, register-is-place}
+use Rattle.s_select_keeps.proofs.Operands.{load-acts, store-acts, stored}
+use Rattle.s_select_keeps.proofs.Registers.{Computes, steps-then, step-to, code-le, first-computes, code-after, immediate-loads}
+use Rattle.s_select_keeps.proofs.Saves.{text-left, word-place, Saves, saves, Restores, restores}
 
 -- what follows the stack's test
 abbrev taking : (saved : ℕ) → List Instr

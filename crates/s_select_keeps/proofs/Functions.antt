@@ -38,17 +38,17 @@ use Rattle.s_select_keeps.specs.Standing.{ItemsStand}
 use Rattle.s_select_keeps.specs.Steps.{Steps, Arrives, Exceeds}
 use Rattle.s_select_keeps.specs.Table.{place_at, InstrIsDone}
 use Rattle.s_select_keeps.proofs.Arguments.{params_are_put, place-below}
-use Rattle.s_select_keeps.proofs.lemmas.CallRows.{BodyStack, InFunction, Out}
-use Rattle.s_select_keeps.proofs.lemmas.Entries as entry
-use Rattle.s_select_keeps.proofs.lemmas.Extended.{shows-more, extends-then}
+use Rattle.s_select_keeps.proofs.CallRows.{BodyStack, InFunction, Out}
+use Rattle.s_select_keeps.proofs.Entries as entry
+use Rattle.s_select_keeps.proofs.Extended.{shows-more, extends-then}
 use Rattle.s_select_keeps.proofs.Frames.{frame_is_taken, stack_is_exceeded}
-use Rattle.s_select_keeps.proofs.lemmas.FunctionBodies.{body-follows}
+use Rattle.s_select_keeps.proofs.FunctionBodies.{body-follows}
 use Rattle.s_select_keeps.proofs.Items.{words_stand}
-use Rattle.s_select_keeps.proofs.lemmas.Lines.{lines-le, lines-cut, line-cut}
-use Rattle.s_select_keeps.proofs.lemmas.Opened.{closed-alike, closed-shown, length-closed}
-use Rattle.s_select_keeps.proofs.lemmas.Outcomes.{Shown, Brings, events-before, exceeds-more}
-use Rattle.s_select_keeps.proofs.lemmas.Registers.{steps-then, code-le}
-use Rattle.s_select_keeps.proofs.lemmas.Returns as ending
+use Rattle.s_select_keeps.proofs.Lines.{lines-le, lines-cut, line-cut}
+use Rattle.s_select_keeps.proofs.Opened.{closed-alike, closed-shown, length-closed}
+use Rattle.s_select_keeps.proofs.Outcomes.{Shown, Brings, events-before, exceeds-more}
+use Rattle.s_select_keeps.proofs.Registers.{steps-then, code-le}
+use Rattle.s_select_keeps.proofs.Returns as ending
 
 -- a state that differs takes an instruction at least
 -- what a register of a hart holds

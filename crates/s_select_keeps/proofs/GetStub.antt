@@ -18,9 +18,9 @@ use Rattle.s_select_keeps.specs.Relation.{IsKept}
 use Rattle.s_select_keeps.specs.Steps.{Steps}
 use Rattle.s_select_keeps.specs.Stubs.{FromStub, StubIsCalled, GetStubReads}
 use Rattle.s_select_keeps.proofs.Calls.{return_leads}
-use Rattle.s_select_keeps.proofs.lemmas.Locations.{kept-apart, kept-argument}
-use Rattle.s_select_keeps.proofs.lemmas.Registers.{Computes, steps-then, step-to, code-le, address-loads}
-use Rattle.s_select_keeps.proofs.lemmas.Stubs.{setting, access-byte, text-keeps, Set, sets}
+use Rattle.s_select_keeps.proofs.Locations.{kept-apart, kept-argument}
+use Rattle.s_select_keeps.proofs.Registers.{Computes, steps-then, step-to, code-le, address-loads}
+use Rattle.s_select_keeps.proofs.Stubs.{setting, access-byte, text-keeps, Set, sets}
 
 abbrev asking : List Instr
 asking = Ecall ∷ read_answer

@@ -20,7 +20,7 @@ use Rattle.s_select.specs.Operands.{location_of, load_immediate, get, put, in_of
 use Rattle.s_select.specs.Templates.{words, place_of, take_frame, give_frame, put_params, get_arguments, binary_code, unary_code, load_instr, store_instr, with_two, with_one, with_none, move_code, clear_code, size_of, instr_items, branch_items}
 use Rattle.s_select_keeps.specs.Formats.{WordsFit, IsInRange, NumbersFit, TemplatesFit}
 use Rattle.s_select_keeps.proofs.Formats.{words-fit, items-append, immediate-fits, IsInReach, get-fits, put-fits, load-fits, store-fits, in-fits, out-fits, binary-fits, unary-fits, place-fits, taken-fits, given-fits, two-fits, one-fits, none-fits, move-fits, load-width, store-width, clear-fits}
-use Rattle.s_select_keeps.proofs.lemmas.Locations.{at-register, at-word}
+use Rattle.s_select_keeps.proofs.Locations.{at-register, at-word}
 
 -- each place is within reach
 reach : (n : ℕ) → IsInReach (location_of n)

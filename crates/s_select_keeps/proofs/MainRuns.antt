@@ -22,7 +22,7 @@ use Rattle.s_select_keeps.specs.Mains.{StartOutcome, HasStart, MainRuns}
 use Rattle.s_select_keeps.specs.Relation.{Bases, Shows, ShowsMemory}
 use Rattle.s_select_keeps.specs.Starts.{main_returns, Started}
 use Rattle.s_select_keeps.specs.Steps.{Ends, Exceeds, Exits}
-use Rattle.s_select_keeps.proofs.lemmas.Outcomes.{events-before, exceeds-more}
+use Rattle.s_select_keeps.proofs.Outcomes.{events-before, exceeds-more}
 use Rattle.s_select_keeps.proofs.Starts.{main_is_called, main_exits}
 
 module _ (functions_run : FunctionsRun) (program : Program) (can : ProgramCanRun program) (main stack e bound : ℕ) (blocks : Memory) (bases : Bases)

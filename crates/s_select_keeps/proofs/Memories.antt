@@ -17,12 +17,12 @@ use Rattle.s_select.specs.Templates.{load_instr, store_instr}
 use Rattle.rv_machine.specs.Standing.{CodeStands}
 use Rattle.s_select_keeps.specs.Relation.{Shows, ShowsMemory}
 use Rattle.s_select_keeps.specs.Memories.{LoadIsDone, StoreIsDone}
-use Rattle.s_select_keeps.proofs.lemmas.Registers.{steps-then, step-to, look-at, one-computes}
-use Rattle.s_select_keeps.proofs.lemmas.Locations.{temporary-apart, kept-apart, location-fits, held-same}
+use Rattle.s_select_keeps.proofs.Registers.{steps-then, step-to, look-at, one-computes}
+use Rattle.s_select_keeps.proofs.Locations.{temporary-apart, kept-apart, location-fits, held-same}
 use Rattle.s_select_keeps.proofs.lemmas.Blocks.{before-or-after, value-there, address-there, leaf-there}
-use Rattle.s_select_keeps.proofs.lemmas.Stores.{same-blocks, stored-there, store-shown}
-use Rattle.s_select_keeps.proofs.lemmas.Represented.{place-written, memory-written}
-use Rattle.s_select_keeps.proofs.lemmas.Templates.{in-apart, out-apart, made, loads, finishes, writes-after}
+use Rattle.s_select_keeps.proofs.Stores.{same-blocks, stored-there, store-shown}
+use Rattle.s_select_keeps.proofs.Represented.{place-written, memory-written}
+use Rattle.s_select_keeps.proofs.Templates.{in-apart, out-apart, made, loads, finishes, writes-after}
 
 -- ---- accesses of each width
 

@@ -15,10 +15,10 @@ use Rattle.s_select.specs.Templates.{binary_code}
 use Rattle.s_select_keeps.specs.Computed.{computed2}
 use Rattle.s_select_keeps.specs.Relation.{Bases, Shows, ShowsAddress, Lives, AreLaidOut}
 use Rattle.s_select_keeps.specs.Memories.{EqualPointersIsDone}
-use Rattle.s_select_keeps.proofs.lemmas.Locations.{location-fits}
+use Rattle.s_select_keeps.proofs.Locations.{location-fits}
 use Rattle.s_select_keeps.proofs.Words.{same2}
-use Rattle.s_select_keeps.proofs.lemmas.Represented.{place-written}
-use Rattle.s_select_keeps.proofs.lemmas.Templates.{binary-computes, two-write}
+use Rattle.s_select_keeps.proofs.Represented.{place-written}
+use Rattle.s_select_keeps.proofs.Templates.{binary-computes, two-write}
 
 -- a block of this name that lives
 record Named (b : BlockName) (m : Memory) : Type 0 where

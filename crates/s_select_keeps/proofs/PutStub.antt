@@ -18,9 +18,9 @@ use Rattle.rv_layout.specs.Sequences.{load_address}
 use Rattle.s_select_keeps.specs.Steps.{Steps}
 use Rattle.s_select_keeps.specs.Stubs.{PutStubWrites}
 use Rattle.s_select_keeps.proofs.Calls.{return_leads}
-use Rattle.s_select_keeps.proofs.lemmas.Locations.{kept-apart, kept-argument}
-use Rattle.s_select_keeps.proofs.lemmas.Registers.{Computes, steps-then, step-to, set-other, code-le, address-loads}
-use Rattle.s_select_keeps.proofs.lemmas.Stubs.{setting, access-byte, text-keeps, Set, sets}
+use Rattle.s_select_keeps.proofs.Locations.{kept-apart, kept-argument}
+use Rattle.s_select_keeps.proofs.Registers.{Computes, steps-then, step-to, set-other, code-le, address-loads}
+use Rattle.s_select_keeps.proofs.Stubs.{setting, access-byte, text-keeps, Set, sets}
 
 abbrev calling : List Instr
 calling = Ecall ∷ Jalr x0 ra 0 ∷ []

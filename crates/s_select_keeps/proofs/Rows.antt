@@ -15,11 +15,11 @@ use Rattle.s_select_keeps.specs.Computed.{computed1, computed2}
 use Rattle.s_select_keeps.specs.Relation.{Frame}
 use Rattle.s_select_keeps.specs.Rows.{ConstIsDone, UndefIsDone, ObjectAddressIsDone, GlobalAddressIsDone, BinaryIsDone, UnaryIsDone, MoveIsDone}
 use Rattle.rv_machine.proofs.lemmas.Standing.{code_is_cut}
-use Rattle.s_select_keeps.proofs.lemmas.Registers.{steps-none, steps-then, code-le, one-computes, address-loads, immediate-loads}
-use Rattle.s_select_keeps.proofs.lemmas.Locations.{temporary-apart, location-fits}
-use Rattle.s_select_keeps.proofs.lemmas.Values.{shows1, shows2}
-use Rattle.s_select_keeps.proofs.lemmas.Represented.{place-written}
-use Rattle.s_select_keeps.proofs.lemmas.Templates.{out-apart, Makes, made, binary-computes, unary-computes, finishes, one-writes, two-write, move-writes}
+use Rattle.s_select_keeps.proofs.Registers.{steps-none, steps-then, code-le, one-computes, address-loads, immediate-loads}
+use Rattle.s_select_keeps.proofs.Locations.{temporary-apart, location-fits}
+use Rattle.s_select_keeps.proofs.Values.{shows1, shows2}
+use Rattle.s_select_keeps.proofs.Represented.{place-written}
+use Rattle.s_select_keeps.proofs.Templates.{out-apart, Makes, made, binary-computes, unary-computes, finishes, one-writes, two-write, move-writes}
 
 pub const_is_done : ConstIsDone
 const_is_done text f q s words rep t w below fits b there low =

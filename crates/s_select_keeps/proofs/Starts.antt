@@ -14,7 +14,7 @@ use Rattle.s_select_keeps.specs.Calls.{Called}
 use Rattle.s_select_keeps.specs.Starts.{main_returns, MainIsCalled, MainExits}
 use Rattle.s_select_keeps.proofs.Calls.{call_leads}
 use Rattle.s_select_keeps.proofs.Exits.{ends}
-use Rattle.s_select_keeps.proofs.lemmas.Registers.{Computes, steps-then, first-computes, code-after, address-loads}
+use Rattle.s_select_keeps.proofs.Registers.{Computes, steps-then, first-computes, code-after, address-loads}
 
 -- what follows the base of the stack, and what follows the call
 abbrev calling : (main : ℕ) → List Instr

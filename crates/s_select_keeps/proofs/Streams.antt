@@ -26,12 +26,12 @@ use Rattle.s_select_keeps.specs.Stubs.{FromStub, StubIsCalled}
 use Rattle.s_select_keeps.proofs.lemmas.Blocks.{memory-same}
 use Rattle.s_select_keeps.proofs.Calls.{call_leads}
 use Rattle.s_select_keeps.proofs.GetStub.{get_stub_reads}
-use Rattle.s_select_keeps.proofs.lemmas.Locations.{kept-apart, kept-argument, kept-return, register-is-place, location-fits, held-at-register, held-at-word}
-use Rattle.s_select_keeps.proofs.lemmas.Operands.{get-done, put-done}
+use Rattle.s_select_keeps.proofs.Locations.{kept-apart, kept-argument, kept-return, register-is-place, location-fits, held-at-register, held-at-word}
+use Rattle.s_select_keeps.proofs.Operands.{get-done, put-done}
 use Rattle.s_select_keeps.proofs.PutStub.{put_stub_writes, stored-elsewhere}
-use Rattle.s_select_keeps.proofs.lemmas.Registers.{Computes, steps-then, code-le}
-use Rattle.s_select_keeps.proofs.lemmas.Represented.{place-written}
-use Rattle.s_select_keeps.proofs.lemmas.Stubs.{text-keeps}
+use Rattle.s_select_keeps.proofs.Registers.{Computes, steps-then, code-le}
+use Rattle.s_select_keeps.proofs.Represented.{place-written}
+use Rattle.s_select_keeps.proofs.Stubs.{text-keeps}
 
 module _ (text : Text) (f : Frame) (words : HasWords text f) (q : linear.State) (buffer : ℕ) (is : IsBuffer text f q.memory buffer) where
   -- registers that are kept, and all bytes but the buffer, are as they were

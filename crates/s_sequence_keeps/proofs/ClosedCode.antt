@@ -17,10 +17,10 @@ use Rattle.s_sequence.proofs.lemmas.Named.{body_values}
 use Rattle.g_mean.proofs.lemmas.Kinds.{NodeTests, node-tests}
 use Rattle.s_sequence_keeps.specs.Closed.{NameSet, after_step, after_code, after_each, StepIsClosed, CodeIsClosed, AreClosed}
 use Rattle.s_sequence_keeps.specs.Laws.{SequencedCodeIsClosed}
-use Rattle.s_sequence_keeps.proofs.lemmas.Branches.{region-tests}
+use Rattle.s_sequence_keeps.proofs.Branches.{region-tests}
 use Rattle.s_sequence_keeps.proofs.Functions.{BodyFits, lambda-body}
-use Rattle.s_sequence_keeps.proofs.lemmas.Written.{step-grows, AreKnown, known-at}
-use Rattle.s_sequence_keeps.proofs.lemmas.Known.{OriginsKnown, NodeWrites, KnownClaim, arguments-known, list-known, known-more, op-writes, branch-writes, loop-writes}
+use Rattle.s_sequence_keeps.proofs.Written.{step-grows, AreKnown, known-at}
+use Rattle.s_sequence_keeps.proofs.Known.{OriginsKnown, NodeWrites, KnownClaim, arguments-known, list-known, known-more, op-writes, branch-writes, loop-writes}
 
 reads-of : (D : NameSet) (args : List Kind) (base : ℕ) (names : Names) (next : ℕ) (x : NodeTree) → NodeWrites D args base names next x →
     StepIsClosed D (node_step args base names next x)

@@ -33,14 +33,14 @@ use Rattle.s_sequence_keeps.specs.Agreement.{Agrees, AreLessDefined, GivesBack}
 use Rattle.s_sequence_keeps.specs.Programs as linear_program
 use Rattle.s_sequence_keeps.specs.Programs.{linear_at, linear_program_at}
 use Rattle.s_sequence_keeps.specs.Laws.{CallsAgree, ProgramsAgree, CallsAreWithin, ProgramsAreWithin}
-use Rattle.s_sequence_keeps.proofs.lemmas.Answers.{agrees-then, agrees-active, agrees-number, agrees-memory, agrees-within}
-use Rattle.s_sequence_keeps.proofs.lemmas.Held.{Held, Carries}
-use Rattle.s_sequence_keeps.proofs.lemmas.Running.{Running, held}
-use Rattle.s_sequence_keeps.proofs.lemmas.Ops.{AllCallsAgree}
-use Rattle.s_sequence_keeps.proofs.lemmas.Claims.{graph_context, code_context}
-use Rattle.s_sequence_keeps.proofs.lemmas.Branches.{region-tests}
-use Rattle.s_sequence_keeps.proofs.lemmas.Nodes.{AtMostOnce}
-use Rattle.s_sequence_keeps.proofs.lemmas.Regions.{every-here, region-agrees}
+use Rattle.s_sequence_keeps.proofs.AgreeingAnswers.{agrees-then, agrees-active, agrees-number, agrees-memory, agrees-within}
+use Rattle.s_sequence_keeps.proofs.Held.{Held, Carries}
+use Rattle.s_sequence_keeps.proofs.Running.{Running, held}
+use Rattle.s_sequence_keeps.proofs.Ops.{AllCallsAgree}
+use Rattle.s_sequence_keeps.proofs.Claims.{graph_context, code_context}
+use Rattle.s_sequence_keeps.proofs.Branches.{region-tests}
+use Rattle.s_sequence_keeps.proofs.Nodes.{AtMostOnce}
+use Rattle.s_sequence_keeps.proofs.Regions.{every-here, region-agrees}
 
 -- ---- what a call takes and gives
 

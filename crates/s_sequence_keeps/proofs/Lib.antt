@@ -1,4 +1,14 @@
-pub mod lemmas
 mod Examples
 mod ClosedCode
 mod Functions
+mod AgreeingAnswers
+mod Held
+mod Running
+mod Ops
+mod Claims
+mod Branches
+mod Loops
+mod Nodes
+mod Regions
+mod Written
+mod Known

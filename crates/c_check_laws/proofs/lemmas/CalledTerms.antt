@@ -18,7 +18,7 @@ use Rattle.c_check_def.specs.State.{Declared, State, pure, broken_at}
 use Rattle.c_check_def.specs.Operands.{Term, term_meant}
 use Rattle.c_check_def.specs.Calls.{callee_of, callee_numbered, called_as, called_term, called_meant, called_name, all_fit, all_passed, call_form, call_term, call_of, called}
 use Rattle.c_check_laws.specs.TypedOperands.{IfSome, OperandIsTyped, ObjectsFit}
-use Rattle.c_check_laws.proofs.lemmas.Options.{and_then_holds, map_holds}
+use Rattle.c_check_laws.proofs.Options.{and_then_holds, map_holds}
 use Rattle.c_check_laws.proofs.Operators.{found}
 use Rattle.c_check_laws.proofs.lemmas.States.{Ending, AllTypes, declared_as, At}
 use Rattle.c_check_laws.proofs.lemmas.Terms.{TermFits, AllFit, ArgumentsFit, PassedFit, all_passed_typed, arguments_typed}

@@ -15,7 +15,7 @@ use Rattle.c_typed.specs.Typed.{ExprTree, expr, FormTree, constant, unary, binar
 use Rattle.c_typed.specs.WellTyped.{Scope, type_of, ExprIsTyped, FormIsTyped}
 use Rattle.c_operator_def.specs.Constants.{has_constant_form, converted_word, unary_word, has_result, are_related, binary_word, truth_word, expr_word, form_word, constant_value}
 use Rattle.c_check_laws.specs.TypedOperands.{IfSome}
-use Rattle.c_check_laws.proofs.lemmas.Options.{and_then_holds, if_holds}
+use Rattle.c_check_laws.proofs.Options.{and_then_holds, if_holds}
 
 abbrev pub IsWord : ℕ → Type 0
 IsWord w = w < 2 ^ 32

@@ -27,7 +27,7 @@ use Rattle.c_check_def.specs.Expressions.{more_characters, expression}
 use Rattle.c_check_def.specs.Initialisers.{Elements, joined, both_joined, value_at, converted, value_read, value, is_character, character_array, characters, string_for, sets_to_zero, count_in, part_type, part_offset, part_of, part_at, parts_of, takes, list_for, initialiser, elements}
 use Rattle.c_check_def.specs.CheckLaws.{IsInRange}
 use Rattle.c_check_laws.specs.TypedOperands.{IfSome, ObjectsFit}
-use Rattle.c_check_laws.proofs.lemmas.Options.{map_holds}
+use Rattle.c_check_laws.proofs.Options.{map_holds}
 use Rattle.c_check_laws.proofs.lemmas.States.{Ending, Fits, fits_back, At, at_step, objects_fit, structs_at}
 use Rattle.c_check_laws.proofs.lemmas.Steps.{expression_steps, if_some_steps}
 use Rattle.c_check_laws.proofs.lemmas.StatementSteps.{value_read_steps, list_for_steps, initialiser_steps, elements_steps}

@@ -18,7 +18,7 @@ use Rattle.c_check_def.specs.Operands.{Term, term_constant}
 use Rattle.c_check_def.specs.Expressions.{expression}
 use Rattle.c_check_def.specs.Statements.{Labels, no_labels, next_group, case_label, label, more_labels, Groups, with_group, grouped}
 use Rattle.c_check_laws.specs.TypedOperands.{IfSome, ObjectsFit}
-use Rattle.c_check_laws.proofs.lemmas.Options.{and_then_holds}
+use Rattle.c_check_laws.proofs.Options.{and_then_holds}
 use Rattle.c_check_laws.proofs.Values.{value_typed}
 use Rattle.c_check_laws.proofs.lemmas.ConstantWords.{IsWord, constant_is_word}
 use Rattle.c_check_laws.proofs.lemmas.States.{Ending, Fits, fits_back, At, at_step, objects_fit}

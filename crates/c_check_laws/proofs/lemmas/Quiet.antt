@@ -180,7 +180,7 @@ pub type_if_quiet : (wrong : Bool) (offset : ℕ) (t : TypeTree) → Quiet (type
 type_if_quiet true offset t s = refl
 type_if_quiet false offset t s = refl
 
-pub small_type_quiet : (offset : ℕ) (t : TypeTree) → Quiet (small_type offset t)
+small_type_quiet : (offset : ℕ) (t : TypeTree) → Quiet (small_type offset t)
 small_type_quiet offset t s = type_if_quiet (is_large s.structs (with_elements t)) offset t s
 
 unstarred_quiet : (undeclared : Option ℕ) (t : TypeTree) → Quiet (unstarred undeclared t)

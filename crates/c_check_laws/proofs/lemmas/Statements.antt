@@ -26,7 +26,7 @@ use Rattle.c_check_def.specs.Expressions.{expressions}
 use Rattle.c_check_def.specs.Declarators.{items_joined, locals}
 use Rattle.c_check_def.specs.Statements.{Jumps, in_loop, in_switch, whole, condition, integer_of, subject, condition_clause, value_clause, value_stmt, if_stmt, with_else, do_stmt, switch_stmt, return_stmt, returned, next_group, label, more_labels, Groups, value_items, for_start, statement, items, groups, group}
 use Rattle.c_check_laws.specs.TypedOperands.{IfSome, ObjectsFit}
-use Rattle.c_check_laws.proofs.lemmas.Options.{and_then_holds, if_holds}
+use Rattle.c_check_laws.proofs.Options.{and_then_holds, if_holds}
 use Rattle.c_check_laws.proofs.Values.{value_typed, unsigned_promoted, ScalarValue, ValueOf, promoted_typed, converts_typed}
 use Rattle.c_check_laws.proofs.Binary.{condition_typed}
 use Rattle.c_check_laws.proofs.lemmas.States.{Ending, Fits, fits_back, At, at_step, objects_fit, step_then}

@@ -35,7 +35,7 @@ use Rattle.c_check_def.specs.Declarators.{is_named}
 use Rattle.c_check_def.specs.Calls.{passed, passed_as, all_passed}
 use Rattle.c_check_def.specs.CheckLaws.{IsInRange}
 use Rattle.c_check_laws.specs.TypedOperands.{IfSome, OperandIsTyped, ObjectsFit, MayBeTaken}
-use Rattle.c_check_laws.proofs.lemmas.Options.{and_then_holds, map_holds}
+use Rattle.c_check_laws.proofs.Options.{and_then_holds, map_holds}
 use Rattle.c_check_laws.proofs.Values.{value_typed, unsigned_promoted, ValueOf, converts_typed, member_of_struct, has_address}
 use Rattle.c_check_laws.proofs.Binary.{binary_is_typed, conditional_is_typed}
 use Rattle.c_check_laws.proofs.Operators.{found, unary_is_typed, index_is_typed, member_is_typed, cast_is_typed, size_is_typed}

@@ -26,13 +26,13 @@ use Rattle.c_parse_tokens.proofs.Marks.{same_mark, same_word}
 
 -- ---- one token
 
-pub at_mark : (p : Punct) (h : Option TokenKind) → at (is (Mark p)) h ≡ true → h ≡ Some (kind.Punct p)
+at_mark : (p : Punct) (h : Option TokenKind) → at (is (Mark p)) h ≡ true → h ≡ Some (kind.Punct p)
 unfolding is
 at_mark p None e = cc
 at_mark p (Some (kind.Punct q)) e = ap (λ (r : Punct). Some (kind.Punct r)) (sym (same_mark p q e))
 at_mark p (Some k) e = cc
 
-pub at_word : (w : Keyword) (h : Option TokenKind) → at (is (ThisKeyword w)) h ≡ true → h ≡ Some (kind.Keyword w)
+at_word : (w : Keyword) (h : Option TokenKind) → at (is (ThisKeyword w)) h ≡ true → h ≡ Some (kind.Keyword w)
 unfolding is
 at_word w None e = cc
 at_word w (Some (kind.Keyword q)) e = ap (λ (r : Keyword). Some (kind.Keyword r)) (sym (same_word w q e))

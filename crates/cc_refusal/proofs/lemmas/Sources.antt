@@ -48,7 +48,7 @@ refused-long s r (fault.Check e) long h is = absurd (no_tokens s h.1.1.tokens lo
 refused-long s r (fault.Build e) long h is = absurd (no_tokens s h.1.1.has_tree.tokens long h.1.1.has_tree.lexed)
 refused-long s r fault.NoMemory long h is = cc
 
-pub refused-take : (s : List ℕ) (r : Refusal) → IsRefused (take 1048577 s) r → IsRefused s r
+refused-take : (s : List ℕ) (r : Refusal) → IsRefused (take 1048577 s) r → IsRefused s r
 refused-take s r h =
     elim (cases_lt 1048576 (length s)) [
       | inl long ↦ refused-long s r h.0 long h.1 h.2

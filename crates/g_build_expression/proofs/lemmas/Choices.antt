@@ -103,7 +103,7 @@ abbrev pub gamma_enclosing : (predicate : Origin) → Work → Enclosing
 gamma_enclosing p w = record { nodes = w.nodes; id = w.point.next; inputs = p ∷ carried_origins w.point.carried; regions = [] }
 
 -- the choice between two regions that are made in this order
-abbrev pub choice_made : {A : Type 0} → RegionOrder → Extra A → Point → (predicate : Origin) → (first second : Point → Built A) → Built A
+abbrev choice_made : {A : Type 0} → RegionOrder → Extra A → Point → (predicate : Origin) → (first second : Point → Built A) → Built A
 choice_made ZeroFirst x s p f g = choice x s p f g
 choice_made OneFirst x s p f g = choice_one_first x s p g f
 

@@ -16,10 +16,10 @@ use Rattle.g_build_def.specs.Expressions.{expr_made}
 use Rattle.g_build_def.specs.Exits.{stmt_jumps, is_return, body_jumps}
 use Rattle.g_build_def.specs.Statements.{object_stored, declared_made, stmt_made, items_made}
 use Rattle.g_build_def.specs.Functions.{params_stored, start_of, end_value, jumps_begun, straight_then, straight_made, jumping_body, straight_body, body_built}
-use Rattle.g_build_laws.proofs.lemmas.Stands.{Frame, allowed, with_mark, IsValue, Grown, NoValue, Stands, Done, Made}
-use Rattle.g_build_laws.proofs.lemmas.Parts.{bind_made, then_made, given_made, nothing_made}
-use Rattle.g_build_laws.proofs.lemmas.Operations.{const_ok, undef_ok, is_access_width}
-use Rattle.g_build_laws.proofs.lemmas.Expressions.{FitsScope, expr_ok}
+use Rattle.g_build_laws.proofs.Stands.{Frame, allowed, with_mark, IsValue, Grown, NoValue, Stands, Done, Made}
+use Rattle.g_build_laws.proofs.Parts.{bind_made, then_made, given_made, nothing_made}
+use Rattle.g_build_laws.proofs.Operations.{const_ok, undef_ok, is_access_width}
+use Rattle.g_build_laws.proofs.Expressions.{FitsScope, expr_ok}
 use Rattle.g_build_laws.proofs.lemmas.Exits.{MayJump, neither_left, neither_right}
 use Rattle.g_build_laws.proofs.lemmas.Declarations.{object_stored_ok, scope_extended, mark_shown, declared_mark, declared_ok}
 use Rattle.g_build_laws.proofs.lemmas.Statements.{stmt_ok, items_ok}

@@ -17,11 +17,11 @@ use Rattle.g_build_def.specs.Operations.{const_made, undef_made, local_made, sto
 use Rattle.c_typed.specs.Objects.{access_width, object_number}
 use Rattle.g_build_def.specs.Expressions.{expr_made}
 use Rattle.g_build_def.specs.Statements.{object_stored, element_stored, characters_made, elements_made, value_begun, object_begun, variable_begun, declared_as, declared_made}
-use Rattle.g_build_laws.proofs.lemmas.Stands.{Frame, Mark, a_value, an_object, with_mark, IsValue, NoValue, Stands, Made}
-use Rattle.g_build_laws.proofs.lemmas.Parts.{bind_made, then_made, nothing_made, dropped_made}
-use Rattle.g_build_laws.proofs.lemmas.Operations.{const_ok, undef_ok, local_ok, store_ok, clear_ok, at_offset_ok, is_access_width}
-use Rattle.g_build_laws.proofs.lemmas.Places.{one_shown, shown_pushed, stands_pushed, stands_popped}
-use Rattle.g_build_laws.proofs.lemmas.Expressions.{FitsScope, expr_ok}
+use Rattle.g_build_laws.proofs.Stands.{Frame, Mark, a_value, an_object, with_mark, IsValue, NoValue, Stands, Made}
+use Rattle.g_build_laws.proofs.Parts.{bind_made, then_made, nothing_made, dropped_made}
+use Rattle.g_build_laws.proofs.Operations.{const_ok, undef_ok, local_ok, store_ok, clear_ok, at_offset_ok, is_access_width}
+use Rattle.g_build_laws.proofs.Places.{one_shown, shown_pushed, stands_pushed, stands_popped}
+use Rattle.g_build_laws.proofs.Expressions.{FitsScope, expr_ok}
 
 -- ---- objects
 

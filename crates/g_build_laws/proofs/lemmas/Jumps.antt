@@ -10,10 +10,10 @@ use Rattle.g_build_def.specs.Writer.{Form, straight, jumping, Point, with_go, wi
 use Rattle.g_build_def.specs.Operations.{const_made, bin_made, is_zero_made}
 use Rattle.g_build_def.specs.Expressions.{expr_made, tested}
 use Rattle.g_build_def.specs.Jumps.{jump_made, return_made, jump_ended, break_ended, unless_left, optional_tested, step_made, again_made, turn_made, loop_made, do_again_made, do_made}
-use Rattle.g_build_laws.proofs.lemmas.Stands.{Frame, IsValue, NoValue, JumpsFit, Stands, Made, MadeInside}
-use Rattle.g_build_laws.proofs.lemmas.Parts.{then_made, nothing_made, dropped_made, no_value_fits, one_value_fits, choice_made, repeat_made}
-use Rattle.g_build_laws.proofs.lemmas.Operations.{const_ok, bin_ok, is_zero_ok, value_then}
-use Rattle.g_build_laws.proofs.lemmas.Expressions.{FitsScope, expr_ok, tested_ok}
+use Rattle.g_build_laws.proofs.Stands.{Frame, IsValue, NoValue, JumpsFit, Stands, Made, MadeInside}
+use Rattle.g_build_laws.proofs.Parts.{then_made, nothing_made, dropped_made, no_value_fits, one_value_fits, choice_made, repeat_made}
+use Rattle.g_build_laws.proofs.Operations.{const_ok, bin_ok, is_zero_ok, value_then}
+use Rattle.g_build_laws.proofs.Expressions.{FitsScope, expr_ok, tested_ok}
 use Rattle.g_build_laws.proofs.lemmas.Exits.{MayJump}
 
 -- ---- `go` and `ret`

@@ -11,11 +11,11 @@ use Rattle.g_build_def.specs.Exits.{stmt_exits, items_exits, can_leave, stmt_jum
 use Rattle.g_build_def.specs.Jumps.{return_made, unless_left}
 use Rattle.g_build_def.specs.Switch.{ends_segment, some_segment_has_several, switch_made}
 use Rattle.g_build_def.specs.Statements.{declared_made, stmt_made, items_made, segments_made}
-use Rattle.g_build_laws.proofs.lemmas.Stands.{Frame, a_hidden, with_mark, IsValue, NoValue, Stands, Made}
-use Rattle.g_build_laws.proofs.lemmas.Parts.{bind_made, then_made, nothing_made, dropped_made, AllInside, no_value_fits, choice_one_first_made}
-use Rattle.g_build_laws.proofs.lemmas.Operations.{undef_ok}
-use Rattle.g_build_laws.proofs.lemmas.Places.{shown_pushed, stands_popped}
-use Rattle.g_build_laws.proofs.lemmas.Expressions.{FitsScope, expr_ok, tested_ok}
+use Rattle.g_build_laws.proofs.Stands.{Frame, a_hidden, with_mark, IsValue, NoValue, Stands, Made}
+use Rattle.g_build_laws.proofs.Parts.{bind_made, then_made, nothing_made, dropped_made, AllInside, no_value_fits, choice_one_first_made}
+use Rattle.g_build_laws.proofs.Operations.{undef_ok}
+use Rattle.g_build_laws.proofs.Places.{shown_pushed, stands_popped}
+use Rattle.g_build_laws.proofs.Expressions.{FitsScope, expr_ok, tested_ok}
 use Rattle.g_build_laws.proofs.lemmas.Exits.{MayJump, jump_left, jump_right, stmt_leaves, items_leave, groups_break}
 use Rattle.g_build_laws.proofs.lemmas.Jumps.{jump_made_ok, return_made_ok, unless_left_ok, loop_made_ok, do_made_ok}
 use Rattle.g_build_laws.proofs.lemmas.Switches.{from_frame, HasFrom, segments_with_ok, switch_made_ok}

@@ -11,10 +11,10 @@ use Rattle.g_build_def.specs.Operations.{const_made, bin_made}
 use Rattle.g_build_def.specs.Exits.{groups_exits}
 use Rattle.g_build_def.specs.Jumps.{break_ended, unless_left}
 use Rattle.g_build_def.specs.Switch.{some_segment_has_several, Target, default_target, Label, labels_of, word_difference, moved_where, Selected, labels_made, segment_made, groups_moved, from_made, from_popped, group_made, segments_with, switch_made}
-use Rattle.g_build_laws.proofs.lemmas.Stands.{Frame, Mark, a_hidden, allowed, with_mark, IsValue, NoValue, SlotsFit, Stands, Made, MadeInside}
-use Rattle.g_build_laws.proofs.lemmas.Parts.{bind_made, then_made, given_made, nothing_made, AllInside, no_value_fits, choices_made, choice_made}
-use Rattle.g_build_laws.proofs.lemmas.Operations.{const_ok, bin_ok, AreValues, values_grown, value_then}
-use Rattle.g_build_laws.proofs.lemmas.Places.{newest_hidden, stands_pushed, stands_popped}
+use Rattle.g_build_laws.proofs.Stands.{Frame, Mark, a_hidden, allowed, with_mark, IsValue, NoValue, SlotsFit, Stands, Made, MadeInside}
+use Rattle.g_build_laws.proofs.Parts.{bind_made, then_made, given_made, nothing_made, AllInside, no_value_fits, choices_made, choice_made}
+use Rattle.g_build_laws.proofs.Operations.{const_ok, bin_ok, AreValues, values_grown, value_then}
+use Rattle.g_build_laws.proofs.Places.{newest_hidden, stands_pushed, stands_popped}
 use Rattle.g_build_laws.proofs.lemmas.Exits.{MayJump}
 use Rattle.g_build_laws.proofs.lemmas.Jumps.{break_ended_ok, unless_left_ok}
 

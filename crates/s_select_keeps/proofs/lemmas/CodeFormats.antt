@@ -11,7 +11,7 @@ use Rattle.s_select.specs.Templates.{items_of, line_items}
 use Rattle.s_select_keeps.specs.Codes.{InstrsFit, StepFits, CodeFits, CodesFit}
 use Rattle.s_select_keeps.specs.Formats.{WordsFit, IsInRange, NumbersFit}
 use Rattle.s_select_keeps.specs.Functions.{InstrCanRun, FunctionCanRun}
-use Rattle.s_select_keeps.proofs.lemmas.Codes.{length-codes}
+use Rattle.s_select_keeps.proofs.Codes.{length-codes}
 use Rattle.s_select_keeps.proofs.Formats.{items-append}
 use Rattle.s_select_keeps.proofs.LineFormats.{templates_fit}
 

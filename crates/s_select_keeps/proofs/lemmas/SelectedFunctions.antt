@@ -22,7 +22,7 @@ use Rattle.s_select_keeps.specs.Codes.{InstrsFit, StepFits, CodeFits, CodesFit}
 use Rattle.s_select_keeps.specs.Formats.{NumbersFit}
 use Rattle.s_select_keeps.specs.Functions.{InstrCanRun}
 use Rattle.s_select_keeps.specs.LaidFunctions.{is_word_constant, SelectedCanRun}
-use Rattle.s_select_keeps.proofs.lemmas.Codes.{length-codes}
+use Rattle.s_select_keeps.proofs.Codes.{length-codes}
 
 -- what the lines are asked
 record LineCan (p : PlainPlaces) (objects globals : ℕ) (line : Line) : Type 0 where

@@ -1,4 +1,4 @@
-use Rattle.g_pass_stale.proofs.lemmas.Unstale.{staleness_comes_of_deps}
+use Rattle.g_pass_stale.proofs.Unstale.{staleness_comes_of_deps}
 use Rattle.g_pass_stale.proofs.laws.staleness_comes_of_deps.Goals as goal
 
 pub returns : goal.returns

@@ -1,4 +1,4 @@
-use Rattle.g_pass_stale.proofs.lemmas.Unstale.{unstale_answers_are_kept}
+use Rattle.g_pass_stale.proofs.Unstale.{unstale_answers_are_kept}
 use Rattle.g_pass_stale.proofs.laws.unstale_answers_are_kept.Goals as goal
 
 pub returns : goal.returns

@@ -1,5 +1,0 @@
-pub mod ExtendExpressions
-pub mod ExtendStatements
-pub mod Taken
-pub mod TakenExpressions
-pub mod TakenStatements
