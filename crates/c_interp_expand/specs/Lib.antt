@@ -1,2 +1,1 @@
 pub mod TaskViews
-pub mod Turns

@@ -1,5 +1,5 @@
--- The tasks, slots and flows that those of the code stand for.
-use Rattle.std.specs.Prelude.{List, map}
+-- The tasks, slots and flows that those of the code stand for, and what a turn adds.
+use Rattle.std.specs.Prelude.{◌≡◌, Bool, true, false, List, ◌++◌, map, Option, None, Some}
 use Rattle.c_typed.specs.Typed.{exprs_of, StmtTree}
 use Rattle.c_typed.specs.StmtViews.{elements_of, items_of, groups_of}
 use Rattle.c_mean.specs.State as state
@@ -100,3 +100,8 @@ task_of (task.Handler h) = s.handler (handler_of h)
 -- all that is left, of which the last is done first
 abbrev pub tasks_of : List Task → List s.Task
 tasks_of ts = map task_of ts
+
+-- where a turn is left its tasks were added, and where none is, nothing is said of them
+abbrev pub IsTurn : Option (List s.Task) → (old new : List s.Task) → (taken : Bool) → Type 0
+IsTurn None old new taken = taken ≡ false
+IsTurn (Some ts) old new taken = (taken ≡ true) × (new ≡ old ++ ts)

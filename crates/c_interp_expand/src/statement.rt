@@ -6,9 +6,8 @@ ghost use Rattle.std.specs.Prelude.{◌≡◌, ℕ, ◌<◌, ◌++◌, OnOk, IfO
 ghost use Rattle.c_typed.specs.Typed.{some_expr};
 ghost use Rattle.c_typed.specs.Objects.{object_number};
 ghost use Rattle.c_typed.specs.StmtViews.{items_of, groups_of, elements_of, optional_of, initial_of};
-ghost use Rattle.c_interp_expand.specs.TaskViews.{tasks_of};
+ghost use Rattle.c_interp_expand.specs.TaskViews.{tasks_of, IsTurn};
 ghost use Rattle.c_interp_def.specs.StmtTasks.{optional_tasks, stmt_tasks, items_tasks, initial_tasks, object_tasks, value_tasks, groups_tasks, elements_tasks, again_tasks, turns_tasks, turn_tasks};
-ghost use Rattle.c_interp_expand.specs.Turns.{IsTurn};
 
 use crate::push::{add, add2, add3};
 use c_interp_def::{ExprTask, Flow, Handler, Stage, StmtTask, Task};

@@ -1,2 +1,1 @@
-pub mod Pure
-pub mod Used
+pub mod Operators

@@ -6,8 +6,7 @@ ghost use Rattle.val_core.specs.Answers.{on_defined};
 ghost use Rattle.c_interp_store.specs.Holding.{Opened, Holds};
 ghost use Rattle.c_mean.specs.State.{State, gives};
 ghost use Rattle.c_mean.specs.Expressions.{unary_done, binary_done, compound_done, stepped};
-ghost use Rattle.c_interp_value.specs.Pure.{is_pure};
-ghost use Rattle.c_interp_value.specs.Used.{used_value};
+ghost use Rattle.c_interp_value.specs.Operators.{is_pure, used_value};
 
 use crate::address::{pointer_difference, pointer_moved};
 use crate::compare::{compared, is_pointer, truth};

@@ -7,8 +7,7 @@ use Rattle.std.proofs.Math.ListN.{get_or-map}
 use Rattle.std.specs.List.{position, position_from}
 use Rattle.std.proofs.lemmas.Iterator.Adapters.{position_from-zero}
 use Rattle.cell_lists.specs.Lists.{Lists, no_cells, list_at, is_in, IsFree, IsListed, AreDistinct, pushed, removed, replaced, without, other_for, first_or, falls}
-use Rattle.cell_lists.specs.Keys.{Keys, no_keys, is_key, key_at, count_of, first_of, with_key, with_moved}
-use Rattle.cell_lists.specs.Indexed.{IsIndexed}
+use Rattle.cell_lists.specs.Keys.{Keys, no_keys, is_key, key_at, count_of, first_of, with_key, with_moved, IsIndexed}
 use Rattle.cell_lists.proofs.ListLemmas.{parts_at, distinct_parts, distinct_pushed, distinct_replaced, others-at, others-outside}
 
 abbrev one : Bool → ℕ

@@ -1,5 +1,6 @@
--- Cells that hold keys as contracts see them: the key of each cell, how many cells hold a key, and the first of them.
-use Rattle.std.specs.Prelude.{ℕ, suc, ◌+◌, ◌==◌, Bool, false, if◌then◌else◌, Option, Some, None, option_map, List, [], ◌∷◌, replicate, slice_index_or, slice_set}
+-- Cells that hold keys as contracts see them: the key of each cell, how many cells hold a key, the first of them, and a list for each key.
+use Rattle.std.specs.Prelude.{◌≡◌, ℕ, suc, ◌+◌, ◌==◌, Bool, false, if◌then◌else◌, Option, Some, None, option_map, List, [], ◌∷◌, length, replicate, slice_index_or, slice_set}
+use Rattle.cell_lists.specs.Lists.{Lists, list_at, is_in, AreDistinct}
 
 -- how many keys there are, and the key of each cell that holds one
 pub record Keys : Type 0 where
@@ -35,3 +36,10 @@ with_key s c key = record { count = s.count; cells = slice_set s.cells c key }
 -- the key of one cell goes to another
 abbrev pub with_moved : Keys → (from to : ℕ) → Keys
 with_moved s c d = record { count = s.count; cells = slice_set (slice_set s.cells d (key_at s c)) c None }
+
+-- how such cells are indexed: each key has a list, of the cells that hold it
+pub record IsIndexed (cells : List (Option ℕ)) (s : Lists) : Type 0 where
+  pub size : s.cells ≡ length cells
+  pub members : (k c : ℕ) → is_in c (list_at s k) ≡ is_key k (slice_index_or cells c None)
+  pub distinct : (k : ℕ) → AreDistinct (list_at s k)
+  pub counts : (k : ℕ) → length (list_at s k) ≡ count_of k cells

@@ -1,4 +1,3 @@
 pub mod Lists
 pub mod Linked
 pub mod Keys
-pub mod Indexed

@@ -26,11 +26,9 @@ pub struct InvertedIndex {
 
 impl Model for InvertedIndex {
     ghost use Rattle.std.specs.Prelude.{length};
-    ghost use Rattle.cell_lists.specs.Keys.{Keys};
+    ghost use Rattle.cell_lists.specs.Keys.{Keys, IsIndexed};
 
     ghost Value = { Keys };
-
-    ghost use Rattle.cell_lists.specs.Indexed.{IsIndexed};
 
     ghost view = { λ s. record { count = length s.lists.lists; cells = s.keys.items } };
 
