@@ -1,9 +1,8 @@
 //! Declarations and definitions of functions, with their bodies.
 
-ghost use Rattle.std.specs.Prelude.{◌≡◌, ◌∷◌, ◌++◌, [], map, length, unwrap_or, IfOk, OnOk};
+ghost use Rattle.std.specs.Prelude.{◌≡◌, ◌∷◌, ◌++◌, [], map, length, IfOk, OnOk};
 ghost use Rattle.c_ast.specs.Externals.{params as params_tree, body_tree};
 ghost use Rattle.c_ast.specs.Statements.{block_tree, items_tree};
-ghost use Rattle.c_type.specs.Trees.{void_type};
 ghost use Rattle.c_typed.specs.StmtViews.{items_of};
 ghost use Rattle.c_operator_def.specs.Types.{is_scalar};
 ghost use Rattle.c_check_def.specs.State.{within_scope};
@@ -14,14 +13,13 @@ use crate::defined::is_block;
 use c_ast::{Block, BlockItem, Body, Function, Identifier, Params};
 use c_check_arm::Jumps;
 use c_check_external::{Param, bind_params, declare_function, name_params, params};
-use c_check_state::{MaybeType, State, Variable};
+use c_check_state::{MaybeType, State, Variable, or_void};
 use c_check_statement::items;
 use c_check_type::{Specified, result_type};
 use c_type::{CType, TypeForm};
 use c_typed::{Item, TFunction, Variable as TVariable};
 use no_memory::NoMemory;
 use std::alloc::Global;
-use std::sync::Arc;
 
 /// A declaration or a definition of a function that begins at an offset (ISO/IEC 9899:2011,
 /// 6.7.6.3, 6.9.1). Its name is in scope after its parameters.
@@ -185,16 +183,6 @@ fn variable(alloc: Global, v: Variable) -> Result<TVariable, NoMemory>
     let ty = or_void(alloc, v.ty)?;
     let is_object = v.is_taken || !is_scalar(&ty);
     Ok(TVariable { ty, is_object })
-}
-
-// The type that there is, or else `void`.
-fn or_void(alloc: Global, ty: MaybeType) -> Result<Arc<CType>, NoMemory>
-    ensures { IfOk result (λ r. r.value ≡ unwrap_or ty void_type) }
-{
-    match ty.ty {
-        Some(ty) => Ok(ty),
-        None => Ok(Arc::new(alloc, CType::void())?),
-    }
 }
 
 fn is_scalar(t: &CType) -> bool

@@ -1,24 +1,17 @@
 //! The values of whole expressions, as statements take them.
 
 ghost use Rattle.std.specs.Prelude.{◌≡◌, IfOk, OnOk};
-ghost use Rattle.c_operator_def.specs.Conversions.{promoted, converted};
-ghost use Rattle.c_type.specs.Trees.{scalar_type};
 ghost use Rattle.c_check_def.specs.State.{or_broken};
 ghost use Rattle.c_check_def.specs.declared.refusal_kind.RefusalKind.TheVariants.{BadOperands};
 ghost use Rattle.c_check_def.specs.Statements.{whole, condition, subject, integer_of};
-ghost use Rattle.c_typed.specs.WellTyped.{type_of};
 ghost use Rattle.c_check_state.specs.Frames.{KeepsDeclarations};
-ghost use Rattle.c_operator_def.specs.Operators.{plus_by};
 
 use c_check_def::RefusalKind;
 use c_check_state::{State, Term};
-use c_operator::converted;
 use c_operator_def::Operand;
-use c_type::{CType, Scalar, TypeForm};
 use c_typed::TExpr;
 use no_memory::NoMemory;
 use std::alloc::Global;
-use std::sync::Arc;
 
 /// The value of a whole expression at an offset, which may be of type `void` (ISO/IEC 9899:2011,
 /// 6.8.3).
@@ -86,38 +79,7 @@ fn integer_of(alloc: Global, a: Box<Operand>) -> Result<Option<TExpr>, NoMemory>
     ensures { IfOk result (λ r. r ≡ integer_of a.value) }
 {
     match c_operator::value(alloc, Box::into_inner(a))? {
-        Some(e) => integer_by(alloc, Box::new(alloc, e)?),
+        Some(e) => c_operator::plus(alloc, Box::new(alloc, e)?),
         None => Ok(None),
     }
-}
-
-fn integer_by(alloc: Global, e: Box<TExpr>) -> Result<Option<TExpr>, NoMemory>
-    ensures { IfOk result (λ r. r ≡ plus_by (type_of e.value) e.value) }
-{
-    match &e.ty.form {
-        TypeForm::Scalar(s) => {
-            let s = *s;
-            let e = promoted(alloc, s, e)?;
-            Ok(Some(Box::into_inner(e)))
-        }
-        _ => Ok(None),
-    }
-}
-
-// An integer of this type, promoted (6.3.1.1).
-fn promoted(alloc: Global, s: Scalar, e: Box<TExpr>) -> Result<Box<TExpr>, NoMemory>
-    ensures { IfOk result (λ r. r.value ≡ promoted s e.value) }
-{
-    match s {
-        Scalar::UnsignedInt => in_type(alloc, Scalar::UnsignedInt, e),
-        Scalar::Char | Scalar::SignedChar | Scalar::UnsignedChar => in_type(alloc, Scalar::Int, e),
-        Scalar::Short | Scalar::UnsignedShort | Scalar::Int => in_type(alloc, Scalar::Int, e),
-    }
-}
-
-fn in_type(alloc: Global, s: Scalar, e: Box<TExpr>) -> Result<Box<TExpr>, NoMemory>
-    ensures { IfOk result (λ r. r.value ≡ converted (scalar_type s) e.value) }
-{
-    let ty = Arc::new(alloc, CType::scalar(s))?;
-    converted(alloc, e, &ty)
 }

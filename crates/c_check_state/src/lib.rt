@@ -19,6 +19,7 @@ mod variables;
 pub use declared::Declared;
 pub use globals::GlobalObject;
 pub use maybe_type::MaybeType;
+pub use program::or_void;
 pub use state::State;
 pub use term::Term;
 pub use variables::Variable;

@@ -68,8 +68,8 @@ fn global(alloc: Global, object: GlobalObject) -> Result<TGlobal, NoMemory>
     })
 }
 
-// The type that there is, or else `void`.
-fn or_void(alloc: Global, ty: MaybeType) -> Result<Arc<CType>, NoMemory>
+/// The type that there is, or else `void`. `NoMemory` only where the allocator has none.
+pub fn or_void(alloc: Global, ty: MaybeType) -> Result<Arc<CType>, NoMemory>
     ensures { IfOk result (λ r. r.value ≡ unwrap_or ty void_type) }
 {
     match ty.ty {

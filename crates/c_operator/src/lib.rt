@@ -34,5 +34,5 @@ pub use conversion::{converted, converts, is_integer, may_convert, same_type};
 pub use elements::index;
 pub use members::{member, selected_tag};
 pub use operands::{condition, is_assignable, operand_type, value};
-pub use unary_operators::unary;
+pub use unary_operators::{plus, unary};
 pub use word::expr_word;

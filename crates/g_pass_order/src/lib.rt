@@ -10,5 +10,5 @@ mod deps;
 pub mod laws;
 mod ordering;
 
-pub use answer::Order;
+pub use answer::{Order, above_all};
 pub use ordering::order;

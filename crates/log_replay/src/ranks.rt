@@ -15,20 +15,10 @@ use crate::fault::ReplayFault;
 use crate::function::replay_function;
 use g_graph::{Lambda, Optimised};
 use g_pass_order::laws::{complete_lists_know_calls, orders_are_unique};
-use g_pass_order::{Order, order};
+use g_pass_order::{Order, above_all, order};
 use log_check::{Log, LogPart};
 use std::alloc::Global;
 use std::sync::Arc;
-
-// One more than the greatest of these ranks, 0 where there are none.
-fn above_all(ranks: &[u32]) -> usize
-    ensures { (j : ℕ) → j < length ranks.now → slice_index ranks.now j < result }
-{
-    match ranks.iter().copied().max() {
-        Some(rank) => rank as usize + 1,
-        None => 0,
-    }
-}
 
 // What the log's steps make of the next function of a rank.
 fn changed_at(

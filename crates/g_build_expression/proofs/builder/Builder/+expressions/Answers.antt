@@ -2,7 +2,7 @@ use Rattle.std.proofs.Common.{◌≡◌, ℕ, ◌∷◌, [], refl, sym, ap, ◌�
 use Rattle.std.specs.Prelude.{Option, None, Some, option_to_list, is_some}
 use Rattle.val_core.specs.declared.operation.Op2.TheVariants as op
 use Rattle.c_type.specs.Trees.{TypeTree, void_type, scalar_type, pointer_to, array_of, struct_type}
-use Rattle.c_typed.specs.Typed.{ExprTree, expr, logical_and, logical_or, conditional, compound}
+use Rattle.c_typed.specs.Typed.{ExprTree, expr, logical_and, logical_or, compound}
 use Rattle.c_typed.specs.WellTyped.{int}
 use Rattle.c_typed.specs.ExprViews.{form_of}
 use Rattle.c_typed.specs.declared.expression.ExprForm.TheVariants as form
