@@ -254,13 +254,31 @@ if not args or "own" in args:
     # A module of proofs/lemmas without `pub` in lemmas.antt is seen in that folder alone; one of proofs/ without `pub`
     # in Lib.antt is seen in its whole crate.
     folder, crate_wide, here, count, outside, alone = [], [], defaultdict(int), 0, 0, []
+    offers = {c: open("crates/%s/proofs/lemmas.antt" % c, encoding="utf-8").read().split("\n")
+              for c in {f.crate for f in files} if os.path.exists("crates/%s/proofs/lemmas.antt" % c)}
+
+    def is_named(f, name):
+        """Whether a path of .rt, a name for its module, or a pub ruleset, which takes none but pub names, names it."""
+        last = f.module.rsplit(".", 1)[-1]
+        path = re.compile(r"::%s::%s(?![\w-])" % (last, re.escape(name)))
+        if any(name in g.said and path.search(g.code[i]) for g in rt_files for i in g.said.get(name, ())):
+            return True
+        for g, local in module_users.get(last, ()):
+            if any(m == f.module for _, m, _, _ in g.aliases) and any("%s.%s" % (local, name) in g.code[i] for i in g.said.get(name, ())):
+                return True
+        return any(d[3] and d[4] == "ruleset" and any(d[1] <= i <= d[2] for i in f.said.get(name, ())) for d in f.decls)
+
     for f in files:
         if "/proofs/lemmas/" not in f.path or f.rt or f.path.endswith("/lemmas/Lib.antt"):
             continue
         users = {g.path for (m, _), gs in importers.items() if m == f.module for g, _, _ in gs}
         users |= {g.path for gs in module_users.values() for g, _ in gs if any(m == f.module for _, m, _, _ in g.aliases)}
         if all(u.split("/")[1] == f.crate for u in users):
-            (folder if all("/proofs/lemmas/" in u for u in users) else crate_wide).append(f.path)
+            here_alone = all("/proofs/lemmas/" in u for u in users)
+            if not here_alone:
+                crate_wide.append(f.path)
+            elif "pub mod " + f.module.rsplit(".", 1)[-1] in offers[f.crate]:
+                folder.append(f.path)
         for d in f.decls:
             if d[3]:
                 count += 1
@@ -269,12 +287,12 @@ if not args or "own" in args:
                     outside += 1
                 else:
                     here[f.crate] += 1
-                    if not by and f.path not in users and id(d) in live and d[4] is None:
+                    if not by and id(d) in live and d[4] is None and not is_named(f, d[0]):
                         alone.append("%s:%d %s" % (f.path, d[1] + 1, d[0]))
     tell("modules that proofs/lemmas alone names: `mod` in the place of `pub mod`", folder)
     tell("modules that their own crate alone names: into proofs/, `mod` in Lib.antt", crate_wide)
     print("pub names of proofs/lemmas: %d, named by other crates: %d (%d of 100)" % (count, outside, 100 * outside // max(count, 1)))
-    tell("pub names of proofs/lemmas that no `use` takes: without `pub`", alone)
+    tell("pub names of proofs/lemmas that no `use`, path or pub ruleset takes: without `pub`", alone)
     tell("pub names of proofs/lemmas that no other crate names, by crate",
          ["%s %d" % (c, n) for c, n in sorted(here.items(), key=lambda x: -x[1]) if n])
 

@@ -52,8 +52,8 @@ fn as_value(e: Option<TExpr>) -> Option<Operand>
     }
 }
 
-/// What `+` makes of a value (ISO/IEC 9899:2011, 6.5.3.3): an integer, promoted, and none of another
-/// type.
+/// What `+` makes of a value (ISO/IEC 9899:2011, 6.5.3.3): an integer, promoted; none of a value of
+/// another type.
 pub fn plus(alloc: Global, e: Box<TExpr>) -> Result<Option<TExpr>, NoMemory>
     ensures { IfOk result (λ r. r ≡ plus_by (type_of e.value) e.value) }
 {

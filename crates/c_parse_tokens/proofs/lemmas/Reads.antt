@@ -75,10 +75,6 @@ token-name n span ts more e taken = token-taken AnyName (kind.Name n) span ts mo
     by_head (Some (kind.Name m)) e = cc
     by_head (Some k) e = cc
 
-pub some_name : (h : Option TokenKind) → IsSome (option_and_then name_of h) → IsSome h
-some_name None e = e
-some_name (Some k) e = refl
-
 pub token-no_name : (ts : List Token) → option_and_then name_of (head ts) ≡ None → token AnyName ts ≡ SyntaxError ts
 unfolding is
 token-no_name ts e = token-fails AnyName ts (by_head (head ts) e)
