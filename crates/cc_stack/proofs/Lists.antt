@@ -1,17 +1,8 @@
 -- What lists of depths have in common.
-use Rattle.std.proofs.Common.{◌≡◌, ℕ, zero, suc, ◌+◌, ◌-◌, ◌^◌, ◌≤◌, ◌<◌, max, List, [], ◌∷◌, ◌++◌, length, Contains, Option, None, Some, get_or, drop, drop-cons, refl, sym, ap, ap₂, ◌∙◌, inl, inr, ◌⊎◌, arith}
+use Rattle.std.proofs.Common.{◌≡◌, ℕ, suc, ◌+◌, ◌-◌, ◌^◌, ◌≤◌, ◌<◌, max, List, [], ◌∷◌, ◌++◌, length, Contains, Option, None, Some, get_or, drop, drop-cons, refl, sym, ap, ap₂, ◌∙◌, inl, inr, ◌⊎◌, arith}
 use Rattle.std.proofs.lemmas.List.{get_or_default, get_or_past}
+use Rattle.g_pass_order.proofs.lemmas.Contained.{contains-none, contains-later, contains-either}
 use Rattle.cc_stack.specs.Depths.{greater, depth_at, most_of, with_frame}
-
-pub contains-none : {A : Type 0} (x : A) → Contains [] x → ⊥
-contains-none x h = omega (arith, h.1)
-
-pub contains-either : (x y : ℕ) (ys : List ℕ) → Contains (y ∷ ys) x → (y ≡ x) ⊎ Contains ys x
-contains-either x y ys (zero, low, same) = inl same
-contains-either x y ys (suc k, low, same) = inr (k, omega (arith, low), same)
-
-pub contains-later : (x y : ℕ) (ys : List ℕ) → Contains ys x → Contains (y ∷ ys) x
-contains-later x y ys h = (suc h.0, omega (arith, h.1), h.2)
 
 some-same : (a b : ℕ) → Some a ≡ Some b → a ≡ b
 some-same a b e = cc

@@ -10,7 +10,8 @@ use Rattle.g_graph.specs.Plain.{PlainLambda}
 use Rattle.g_pass_order.specs.Calls.{region_calls, callees, calls_of, CallsAreKnown, IsOrder}
 use Rattle.cc_stack.specs.Depths.{IsRecursive}
 use Rattle.cc_stack.specs.Turns.{AreTurns}
-use Rattle.cc_stack.proofs.Called.{called-in, callee-recursive, calls-known}
+use Rattle.g_pass_order.proofs.lemmas.Contained.{calls-known}
+use Rattle.cc_stack.proofs.Called.{called-in, callee-recursive}
 
 -- a callee whose rank is no smaller is one that calls lead back to
 no-earlier : CalleeRanksBelow → UnitsAreMutual → (ls : List PlainLambda) → CallsAreKnown ls → (ranks : List ℕ) (deps : List (List ℕ)) → IsOrder ls ranks deps →

@@ -8,7 +8,7 @@ use Rattle.g_graph.specs.Plain.{RegionTree, region, NodeTree, node, NodeTrees, n
 use Rattle.g_graph.specs.Lists.{RegionOps, NodeOps, NodesOps, RegionsOps, Calls}
 use Rattle.g_pass_order.specs.Calls.{op_calls, region_calls, node_calls, nodes_calls, regions_calls}
 use Rattle.g_pass_order.specs.Laws.{CompleteListsKnowCalls}
-use Rattle.g_pass_order.proofs.Increasing.{contains-none}
+use Rattle.g_pass_order.proofs.lemmas.Contained.{contains-none}
 
 module _ (ls : List PlainLambda) (f : ℕ) where
   none : Contains [] f → f < length ls

@@ -1,3 +1,4 @@
+pub mod lemmas
 mod Increasing
 mod Known
 mod Orders

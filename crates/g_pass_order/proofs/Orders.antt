@@ -1,37 +1,15 @@
 -- The deps of a function are called by it, and are of smaller ranks.
-use Rattle.std.proofs.Common.{◌≡◌, ◌≢◌, ◌≤◌, ℕ, true, List, [], length, get_or, slice_index, slice_index_or, Contains, sym, ap, subst, ◌∙◌, inl, inr, arith}
+use Rattle.std.proofs.Common.{◌≡◌, ◌≢◌, ℕ, true, List, [], length, slice_index, slice_index_or, Contains, sym, ap, subst, ◌∙◌, inl, inr, arith}
 use Rattle.std.specs.Prelude.{not, ◌==◌}
-use Rattle.std.specs.List.{range_with_len}
 use Rattle.std.proofs.lemmas.Bool.{cases_lt}
 use Rattle.std.proofs.lemmas.Bool.Decides.{nat_tests}
-use Rattle.std.proofs.lemmas.List.{length-map, get_or-map, get_or_past}
+use Rattle.std.proofs.lemmas.List.{get_or_past}
 use Rattle.std.proofs.lemmas.List.FromFn.{length-map-range_with_len, get_or-map-range_with_len}
-use Rattle.call_order.specs.Units.{Calls, AllKnown}
 use Rattle.call_order.specs.Laws.{CalleeRanksBelow, UnitsAreUnique}
 use Rattle.g_graph.specs.Plain.{PlainLambda}
-use Rattle.g_pass_order.specs.Calls.{region_calls, has, callees, calls_of, no_lambda, outside, outside_calls, IsOrder}
+use Rattle.g_pass_order.specs.Calls.{calls_of, outside, outside_calls, IsOrder}
 use Rattle.g_pass_order.specs.Laws.{IsDep, OrdersAreRanked, OrdersAreUnique}
-use Rattle.g_pass_order.proofs.Increasing.{contains-none, filtered, in-range}
-
--- ---- calls
-
-calls-length : (ls : List PlainLambda) → length (calls_of ls) ≡ length ls
-calls-length ls = length-map ls (callees (length ls))
-
-calls-past : (ls : List PlainLambda) (j k : ℕ) → length ls ≤ j → Calls (calls_of ls) j k → ⊥
-calls-past ls j k past h = contains-none k (subst (λ xs. Contains xs k) (get_or_past (calls_of ls) j [] (omega (arith, calls-length ls))) h)
-
-pub calls-known : (ls : List PlainLambda) → AllKnown (calls_of ls)
-calls-known ls j k h =
-    elim (cases_lt j (length ls)) [
-      | inl inside ↦
-          let in_row = subst (λ xs. Contains xs k) (get_or-map (callees (length ls)) ls j no_lambda [] inside) h in
-          let low = in-range (length ls) k (filtered (has (region_calls (get_or ls j no_lambda).body)) (range_with_len 0 (length ls)) k in_row).0 in
-          omega (arith, low, calls-length ls)
-      | inr past ↦ absurd (calls-past ls j k past h)
-    ]
-
--- ---- deps
+use Rattle.g_pass_order.proofs.lemmas.Contained.{contains-none, filtered, calls-length, calls-known}
 
 deps-length : (ls : List PlainLambda) (ranks : List ℕ) (deps : List (List ℕ)) → IsOrder ls ranks deps → length deps ≡ length ls
 deps-length ls ranks deps order =

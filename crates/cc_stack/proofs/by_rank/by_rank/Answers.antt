@@ -2,7 +2,7 @@ use Rattle.std.proofs.Common.{rules, ◌≡◌, ℕ, List, length, slice_index_o
 use Rattle.std.specs.List.{range_with_len}
 use Rattle.std.proofs.lemmas.List.FromFn.{length-range_with_len}
 use Rattle.std.proofs.lemmas.List.Sorted.{Contains-permutation, length_permutation, IsPermutation-sym, IsNonDecreasingBy-from_sort_by_key}
-use Rattle.cc_stack.proofs.Called.{in-range, range-has}
+use Rattle.g_pass_order.proofs.lemmas.Contained.{in-range, range-has}
 use Rattle.cc_stack.proofs.by_rank.by_rank.Goals as goal
 
 pub returns-clause-counted : goal.returns-clause-counted

@@ -1,6 +1,6 @@
 use Rattle.std.proofs.Common.{sym, ap, subst, ◌∙◌}
 use Rattle.call_order.specs.Units.{call_lists, AllKnown}
-use Rattle.g_pass_order.proofs.Orders.{calls-known}
+use Rattle.g_pass_order.proofs.lemmas.Contained.{calls-known}
 use Rattle.g_pass_order.proofs.ordering.order.Goals as goal
 
 pub units-requires-clause-known : goal.units-requires-clause-known
