@@ -427,6 +427,8 @@ params_first l w =
     ((and_parts (body_fits l && numbers_fit l) (every_region (region_fits (length l.objects)) l.body) own).0)).0 in
     let args : args_of l.body ≡ replicate l.params Value ++ Memory ∷ Io ∷ [] =
     same_kinds (args_of l.body) (replicate l.params Value ++ Memory ∷ Io ∷ []) ((and_parts (same (args_of l.body) (replicate l.params Value ++ Memory ∷ Io ∷ [])) _ fit).0) in (
-      (λ k e. ap (λ ks. value_args (take k ks)) args ∙ firsts_are l.params k (Memory ∷ Io ∷ []) e),
+      (λ k e. let first : value_args (take k (args_of l.body)) ≡ k =
+          ap (λ ks. value_args (take k ks)) args ∙ firsts_are l.params k (Memory ∷ Io ∷ []) e in
+          omega (arith, first)),
       (ap value_args args ∙ body_values l.params),
     )

@@ -39,6 +39,10 @@ next_of w = w.next
 abbrev label_of : PlainWriter → ℕ
 label_of w = w.label
 
+-- what a scope says that is equal to another
+seen : (s t : Scope) (r : RegionTree) (base : ℕ) → s ≡ t → ((o : Origin) → port_in t o ≡ region_port base r o) → (o : Origin) → port_in s o ≡ region_port base r o
+seen s t r base e h o = ap (λ x. port_in x o) e ∙ h o
+
 -- ---- a region's nodes
 
 pub write_nodes-ports_of-requires : goal.write_nodes-ports_of-requires
@@ -117,16 +121,12 @@ write_nodes-returns-clause-scope t c =
     let items = c.deref-node-items.result.now in
     let inv = c.loop-node.invariant in
     let none : drop c.loop-node.node-index items ≡ [] = drop_of_length-le items c.loop-node-test.false in
-    region_ports c.args.region.now scope c.args.w.now.next inv.args
+    seen c.in_ok-new.field-0.value scope c.args.region.now c.args.w.now.next c.in_ok-new.ensures.ok
+    (region_ports c.args.region.now scope c.args.w.now.next inv.args
     (λ n p. ap (λ zs. nodes_named (nodes_of zs) c.loop-node.w.next (names_in scope) n p) (sym none) ∙ inv.names n p)
-    (λ n p. ap (λ zs. kind_after (nodes_of zs) n p (kind_in scope (Out n p))) (sym none) ∙ inv.kinds n p)
+    (λ n p. ap (λ zs. kind_after (nodes_of zs) n p (kind_in scope (Out n p))) (sym none) ∙ inv.kinds n p))
 
 -- ---- branches
-
--- what a boxed scope says
-seen : (s boxed : Scope) (r : RegionTree) (base : ℕ) → s ≡ boxed → ((o : Origin) → port_in boxed o ≡ region_port base r o) → (o : Origin) →
-    port_in s o ≡ region_port base r o
-seen s boxed r base e h o = ap (λ x. port_in x o) e ∙ h o
 
 pub write_entered-write_moves-requires : goal.write_entered-write_moves-requires
 write_entered-write_moves-requires t c =
@@ -150,18 +150,18 @@ write_first-write_exits-requires t c =
     let r = c.args.region.now in
     let e : c.deref.result.now ≡ results_of r = c.deref.ensures.value ∙ ap results_of c.region.view_is in
     let n : c.w.inside.next ≡ c.args.w.now.next + region_names r = ap next_of c.w.view_is ∙ c.in_ok-boxed.ensures.next in
-    omega (arith, n, exits_room r c.deref.result.now (kind_in c.as_ref-boxed.result.now) e, c.requires.room.for_names)
+    omega (arith, n, exits_room r c.deref.result.now (kind_in c.as_ref-scope.result.now) e, c.requires.room.for_names)
 
 pub write_first-returns-clause-lines : goal.write_first-returns-clause-lines
 write_first-returns-clause-lines t c =
     let r = c.args.region.now in
     let w = c.args.w.now in
-    let scope = c.as_ref-boxed.result.now in
+    let scope = c.as_ref-scope.result.now in
     let results = c.deref.result.now in
     let e : results ≡ results_of r = c.deref.ensures.value ∙ ap results_of c.region.view_is in
     let n : c.w.inside.next ≡ w.next + region_names r = ap next_of c.w.view_is ∙ c.in_ok-boxed.ensures.next in
     ap lines_of c.w-2.view_is
-    ∙ branch_written w.next scope r results e (seen _ _ r _ c.as_ref-boxed.ensures c.in_ok-boxed.ensures.scope) c.args.entries.now (w.next + region_names r) w.label c.write_entered.new.w.label w.lines
+    ∙ branch_written w.next scope r results e (seen _ _ r _ c.as_ref-scope.ensures c.in_ok-boxed.ensures.scope) c.args.entries.now (w.next + region_names r) w.label c.write_entered.new.w.label w.lines
     c.write_entered.new.w.lines
     c.write_exits.new.w.lines
     c.in_ok-boxed.ensures.lines
@@ -171,11 +171,11 @@ write_first-returns-clause-lines t c =
 pub write_first-returns-clause-next : goal.write_first-returns-clause-next
 write_first-returns-clause-next t c =
     let r = c.args.region.now in
-    let scope = c.as_ref-boxed.result.now in
+    let scope = c.as_ref-scope.result.now in
     let results = c.deref.result.now in
     let e : results ≡ results_of r = c.deref.ensures.value ∙ ap results_of c.region.view_is in
     let n : c.w.inside.next ≡ c.args.w.now.next + region_names r = ap next_of c.w.view_is ∙ c.in_ok-boxed.ensures.next in
-    let kinds = kinds_written c.args.w.now.next scope r results e (seen _ _ r _ c.as_ref-boxed.ensures c.in_ok-boxed.ensures.scope) in
+    let kinds = kinds_written c.args.w.now.next scope r results e (seen _ _ r _ c.as_ref-scope.ensures c.in_ok-boxed.ensures.scope) in
     omega (
       arith,
       ap (λ (p : PlainPorts). p.end) c.outputs.view_is,
@@ -188,19 +188,19 @@ pub write_other-write_exits-requires : goal.write_other-write_exits-requires
 write_other-write_exits-requires t c =
     let r = c.args.region.now in
     let e : c.deref.result.now ≡ results_of r = c.deref.ensures.value ∙ ap results_of c.region.view_is in
-    omega (arith, exits_room r c.deref.result.now (kind_in c.as_ref-boxed.result.now) e, c.requires.room.for_names, c.requires.outputs)
+    omega (arith, exits_room r c.deref.result.now (kind_in c.as_ref-scope.result.now) e, c.requires.room.for_names, c.requires.outputs)
 
 pub write_other-returns-clause-lines : goal.write_other-returns-clause-lines
 write_other-returns-clause-lines t c =
     let r = c.args.region.now in
     let w = c.args.w.now in
     let two = c.push-2.new.self in
-    let scope = c.as_ref-boxed.result.now in
+    let scope = c.as_ref-scope.result.now in
     let results = c.deref.result.now in
     let e : results ≡ results_of r = c.deref.ensures.value ∙ ap results_of c.region.view_is in
     let heads : two ≡ with_lines (with_lines w (jump c.args.end ∷ [])) (label c.args.label ∷ []) =
     c.in_ok-push-2.ensures ∙ ap (λ v. with_lines v (label c.args.label ∷ [])) c.in_ok-push.ensures in
-    branch_written two.next scope r results e (seen _ _ r _ c.as_ref-boxed.ensures c.in_ok-boxed.ensures.scope) c.args.entries.now c.args.outputs two.label c.write_entered.new.w.label two.lines
+    branch_written two.next scope r results e (seen _ _ r _ c.as_ref-scope.ensures c.in_ok-boxed.ensures.scope) c.args.entries.now c.args.outputs two.label c.write_entered.new.w.label two.lines
     c.write_entered.new.w.lines
     c.write_exits.new.w.lines
     c.in_ok-boxed.ensures.lines (ap lines_of c.in_ok-write_exits.ensures.lines)
@@ -433,7 +433,7 @@ write_loop-returns-clause-lines t c =
     let args = c.deref.result.now in
     let results = c.deref-2.result.now in
     let names = c.deref-4.result.now in
-    let scope = c.as_ref-boxed.result.now in
+    let scope = c.as_ref-scope.result.now in
     let entries = c.args.entries.now in
     let a : args ≡ args_of r = c.deref.ensures.value ∙ ap args_of c.region.view_is in
     let b : results ≡ results_of r = c.deref-2.ensures.value ∙ ap results_of c.region.view_is in
@@ -451,7 +451,7 @@ write_loop-returns-clause-lines t c =
     (region_code w.next r k) = λ k.
     c.in_ok-boxed.ensures.lines k ∙ ap (λ m. c.push.new.self.lines ++ code_lines m (region_code c.push.new.self.next r k)) label_is
     ∙ ap (λ m. c.push.new.self.lines ++ code_lines (w.label + 2) (region_code m r k)) next_is in
-    let ports = λ (o : Origin). ap (λ s. port_in s o) c.as_ref-boxed.ensures ∙ c.in_ok-boxed.ensures.scope o ∙ ap (λ m. region_port m r o) next_is in
+    let ports = λ (o : Origin). ap (λ s. port_in s o) c.as_ref-scope.ensures ∙ c.in_ok-boxed.ensures.scope o ∙ ap (λ m. region_port m r o) next_is in
     let n3 = c.write_nodes.new.w.next in
     let l3 = c.write_nodes.new.w.lines in
     let end : ℕ → ℕ → List Kind → List Line = λ m f ks.

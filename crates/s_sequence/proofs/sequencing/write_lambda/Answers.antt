@@ -29,8 +29,8 @@ returns c =
     let params : items ≡ numbers_from 0 c.args.lambda.now.params = c.in_ok-params.ensures ∙ ap (λ (l : PlainLambda). numbers_from 0 l.params) c.lambda.view_is in
     let begins = c.in_ok-push.ensures ∙ ap (λ w. with_lines w (enter items ∷ [])) c.requires.first in
     on_ok_weaker c.push-2.result
-    (λ h. body_written c.lambda.inside.body c.as_ref-boxed.result.now c.value_of-value.result c.push.new.self c.write_nodes.new.w c.push-2.new.self
+    (λ h. body_written c.lambda.inside.body c.as_ref-scope.result.now c.value_of-value.result c.push.new.self c.write_nodes.new.w c.push-2.new.self
     (enter items ∷ []) begins c.in_ok-boxed.ensures.lines
-    (λ o. ap (λ s. port_in s o) c.as_ref-boxed.ensures ∙ c.in_ok-boxed.ensures.scope o) c.value_of-value.ensures h
+    (λ o. ap (λ s. port_in s o) c.as_ref-scope.ensures ∙ c.in_ok-boxed.ensures.scope o) c.value_of-value.ensures h
     ∙ ap (λ r. enter items ∷ (code_lines 0 (body_code r) ++ leave (value_name r) ∷ [])) body
     ∙ ap (λ xs. enter xs ∷ (code_lines 0 (body_code c.args.lambda.now.body) ++ leave (value_name c.args.lambda.now.body) ∷ [])) params) c.push-2.ensures
