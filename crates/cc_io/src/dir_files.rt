@@ -63,7 +63,7 @@ const READ_BITS: u32 = 0o444;
 /// Creates a file at a path, as `fs::create` does, which nobody may execute if it was not there.
 /// Gives the mode that an image has there, if it was not there: the one that the system made of
 /// `IMAGE_MODE`, so that it is less the mask.
-fn create_at<R: rt::Files>(system: &R, path: &Path) -> io::Result<(R::File, Option<u32>)> {
+fn create_at<R: rt::Files>(system: &R, path: Path<'_>) -> io::Result<(R::File, Option<u32>)> {
     let created = OpenOptions::new()
         .write(true)
         .create_new(true)
