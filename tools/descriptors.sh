@@ -94,24 +94,30 @@ for closed in '' 0 1 2 01 02 12 012; do
 done
 echo "$script: each command is done without each of $sets sets of descriptors"
 
-# An image can be executed by those who may read it, a text by nobody. A device keeps its mode.
+# A new image has the mode 0777 less the mask, a new text 0666 less it; an image that was there can be executed by those who may read it.
+# A device keeps its mode.
 mode() {
     ls -lL "$1" | cut -c 1-10
 }
-for mask in 022 077 027; do
+for mask in 022 077 027 026 044; do
     rm -f "$folder/image.elf" "$folder/text.c"
     (umask $mask && "$program" build "$folder/answer.c" "$folder/image.elf" && "$program" gen 1 1 "$folder/text.c")
     case $mask in
         022) wanted='-rwxr-xr-x -rw-r--r--' ;;
         077) wanted='-rwx------ -rw-------' ;;
-        *) wanted='-rwxr-x--- -rw-r-----' ;;
+        027) wanted='-rwxr-x--- -rw-r-----' ;;
+        026) wanted='-rwxr-x--x -rw-r-----' ;;
+        *) wanted='-rwx-wx-wx -rw--w--w-' ;;
     esac
     [ "$(mode "$folder/image.elf") $(mode "$folder/text.c")" = "$wanted" ] || fail "under the mask $mask: $(mode "$folder/image.elf") $(mode "$folder/text.c")"
 done
+chmod 640 "$folder/image.elf"
+"$program" build "$folder/answer.c" "$folder/image.elf" || fail 'OUT cannot be a file that is there'
+[ "$(mode "$folder/image.elf")" = '-rwxr-x---' ] || fail "an image over a file of mode 0640: $(mode "$folder/image.elf")"
 before=$(mode /dev/null)
 "$program" build "$folder/answer.c" /dev/null || fail 'OUT cannot be /dev/null'
 [ "$(mode /dev/null)" = "$before" ] || fail 'a build has changed the mode of /dev/null'
-echo "$script: images can be executed under three masks"
+echo "$script: images can be executed under five masks"
 
 # What is written before a read is there while the program waits, and all of it before the report.
 cat >"$folder/prompt.c" <<'END'

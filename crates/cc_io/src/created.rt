@@ -52,8 +52,8 @@ impl<F: Files> Sink for Created<'_, F> {
     }
 }
 
-/// Creates the file of this name with these bytes, and lets those who may read it execute it: what
-/// is saved whole is an image. `Failed` only where the create count of this name or the write
+/// Creates the file of this name with these bytes, and gives it the mode of an executable: what is
+/// saved whole is an image. `Failed` only where the create count of this name or the write
 /// count increased; no file has changed then, or that file holds a prefix of the bytes.
 pub fn save<F: Files>(files: &mut F, name: &str, bytes: &[u8]) -> Result<(), Failed>
     ensures ok { OnOk result

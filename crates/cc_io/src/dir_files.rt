@@ -10,17 +10,19 @@ use crate::failing::fault;
 use crate::files::Files;
 use crate::uninterrupted::{read_uninterrupted, write_uninterrupted};
 use std::alloc::{AllocError, Global};
-use std::fs::OpenFile;
+use std::fs::{OpenFile, OpenOptions};
 use std::io::{ErrorKind, Read, Write};
-use std::os::unix::fs::PermissionsExt;
+use std::os::unix::fs::{OpenOptionsExt, PermissionsExt};
 use std::path::Path;
 use std::{fs, io, rt};
 
-// An open file, and the name that it was asked for by.
+// An open file, the name that it was asked for by and, of a file that was not there before it was
+// created, the mode that an image has there: 0777 less the mask.
 #[derive(Drop)]
 struct NamedFile<H> {
     name: String,
     file: H,
+    image_mode: Option<u32>,
 }
 
 fn read_from<H: Read>(reading: &mut Option<NamedFile<H>>, buf: &mut [u8]) -> io::Result<usize>
@@ -49,18 +51,55 @@ fn write_to<H: Write>(writing: &mut Option<NamedFile<H>>, piece: &[u8]) -> io::R
     }
 }
 
-/// The bits of a mode of a file that say who may read it: its owner, its group and all others.
+/// The mode that is asked for where a file is created: that of an image.
+const IMAGE_MODE: u32 = 0o777;
+
+/// The bits of a mode of a file that say who may execute it: its owner, its group and all others.
+const EXECUTE_BITS: u32 = 0o111;
+
+/// The bits of a mode of a file that say who may read it, in the same order.
 const READ_BITS: u32 = 0o444;
 
-/// Lets those who may read this file execute it, where it is a regular one.
-fn allow_execution<H: OpenFile>(file: &H) -> io::Result<()> {
+/// Creates a file at a path, as `fs::create` does, which nobody may execute if it was not there.
+/// Gives the mode that an image has there, if it was not there: the one that the system made of
+/// `IMAGE_MODE`, so that it is less the mask.
+fn create_at<R: rt::Files>(system: &R, path: Path<'_>) -> io::Result<(R::File, Option<u32>)> {
+    let created = OpenOptions::new()
+        .write(true)
+        .create_new(true)
+        .mode(IMAGE_MODE)
+        .open(system, path);
+    match created {
+        Ok(file) => {
+            let image_mode = refuse_execution(&file).ok();
+            Ok((file, image_mode))
+        }
+        Err(error) if error.kind() == ErrorKind::AlreadyExists => {
+            Ok((fs::create(system, path)?, None))
+        }
+        Err(error) => Err(error),
+    }
+}
+
+/// Lets nobody execute this file, and gives the mode that it had.
+fn refuse_execution<H: OpenFile>(file: &H) -> io::Result<u32> {
+    let mut permissions = file.metadata()?.permissions();
+    let mode = permissions.mode();
+    permissions.set_mode(mode & !EXECUTE_BITS);
+    file.set_permissions(permissions)?;
+    Ok(mode)
+}
+
+/// Gives this file the mode of an image, where it is a regular one. Where none is told, those who
+/// may read it may then execute it.
+fn allow_execution<H: OpenFile>(file: &H, image_mode: Option<u32>) -> io::Result<()> {
     let metadata = file.metadata()?;
     if !metadata.is_file() {
         return Ok(());
     }
     let mut permissions = metadata.permissions();
     let mode = permissions.mode();
-    permissions.set_mode(mode | (mode & READ_BITS) >> 2);
+    permissions.set_mode(image_mode.unwrap_or(mode | (mode & READ_BITS) >> 2));
     file.set_permissions(permissions)
 }
 
@@ -109,7 +148,11 @@ impl<'a, R: rt::Files> DirFiles<'a, R> {
             return Err(io::Error::from(ErrorKind::IsADirectory));
         }
         let name = String::from_str(self.alloc, name)?;
-        Ok(NamedFile { name, file })
+        Ok(NamedFile {
+            name,
+            file,
+            image_mode: None,
+        })
     }
 
     fn make(&self, name: &str) -> io::Result<NamedFile<R::File>>
@@ -117,8 +160,12 @@ impl<'a, R: rt::Files> DirFiles<'a, R> {
     {
         let path = Path::new(self.folder.as_str()).join(self.alloc, name)?;
         let name = String::from_str(self.alloc, name)?;
-        let file = fs::create(self.system, path.as_path())?;
-        Ok(NamedFile { name, file })
+        let (file, image_mode) = create_at(self.system, path.as_path())?;
+        Ok(NamedFile {
+            name,
+            file,
+            image_mode,
+        })
     }
 }
 
@@ -210,7 +257,7 @@ impl<R: rt::Files> Files for DirFiles<'_, R> {
 
     fn make_executable(&mut self) {
         if let Some(made) = &self.writing {
-            let _ = allow_execution(&made.file);
+            let _ = allow_execution(&made.file, made.image_mode);
         }
     }
 }

@@ -104,7 +104,7 @@ pub trait Files {
         ensures counts { OnlyWritesRise read_faults write_faults open_faults create_faults self.old
             self.new };
 
-    /// Lets those who may read the created file execute it, where the system has modes of files. A
+    /// Gives the created file the mode of an executable, where the system has modes of files. A
     /// change of the mode that is refused is passed over.
     fn make_executable(&mut self)
         requires { IsSome (writing self.old) }

@@ -1,16 +1,16 @@
 -- What holds of the linear code of a lambda.
-use Rattle.std.specs.Prelude.{◌≡◌, ℕ, ◌-◌, Bool, true, IsTrue, [], ◌∷◌, ◌++◌, length}
+use Rattle.std.specs.Prelude.{◌≡◌, ◌<◌, ℕ, ◌-◌, Bool, true, IsTrue, length}
 use Rattle.g_graph.specs.declared.op.Op.{Op}
 use Rattle.g_graph.specs.declared.op.Op.TheVariants.{Apply}
-use Rattle.g_graph.specs.Plain.{PlainLambda}
+use Rattle.g_graph.specs.declared.op.Origin.TheVariants.{Arg}
+use Rattle.g_graph.specs.Plain.{args_of, PlainLambda}
 use Rattle.g_graph.specs.Count.{region_values}
 use Rattle.g_graph.specs.Lists.{RegionOps, NamesGlobal}
 use Rattle.g_graph.specs.WellFormed.{all_of, IsWellFormed}
 use Rattle.s_linear.specs.Linear.{Instr, call}
-use Rattle.s_linear.specs.Lines.{enter, leave, does, names_below, code_lines, lines}
-use Rattle.val_core.specs.Numbers.{numbers_from}
+use Rattle.s_linear.specs.Lines.{does, names_below, lines}
 use Rattle.s_linear.specs.Operands.{has_its_object, has_its_global, has_its_width}
-use Rattle.s_sequence.specs.Sequence.{sequenced}
+use Rattle.s_sequence.specs.Sequence.{value_args, no_names, name_of, sequenced}
 
 -- a call's function and number of arguments pass
 abbrev pub calls_with : (ℕ → ℕ → Bool) → Instr → Bool
@@ -45,8 +45,8 @@ CallsKeepArguments =
     (test : ℕ → ℕ → Bool) (l : PlainLambda) → RegionOps (Applies test) l.body →
     IsTrue (all_of (does (calls_with test)) (lines (sequenced l)))
 
--- The parameters are the first names in order, on the first line, and the last line leaves with the value.
+-- In the body of a well-formed lambda the parameters have the first names, in order, and the names of nodes come after them.
 abbrev pub ParamsAreFirst : Type 0
 ParamsAreFirst =
-    (l : PlainLambda) →
-    lines (sequenced l) ≡ (enter (numbers_from 0 l.params) ∷ code_lines 0 (sequenced l).code) ++ leave (sequenced l).value ∷ []
+    (l : PlainLambda) → IsWellFormed l →
+    ((k : ℕ) → k < l.params → name_of (args_of l.body) 0 no_names (Arg k) ≡ k) × (value_args (args_of l.body) ≡ l.params)

@@ -28,8 +28,8 @@ pub fn calls_keep_arguments()
     ensures { CallsKeepArguments }
 {}
 
-/// The parameters are the first names in order, on the first line, and the last line leaves with
-/// the value.
+/// The parameters of a well-formed lambda have the first names, in order, and the names of its nodes
+/// come after them.
 pub fn params_are_first()
     ensures { ParamsAreFirst }
 {}

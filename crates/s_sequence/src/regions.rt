@@ -28,9 +28,9 @@ use s_linear::Line;
 use std::alloc::Global;
 
 /// Writes the nodes of a region whose names begin at the next one, and gives what its origins are
-/// then.
+/// then, boxed, so that a nest of regions takes less of the stack.
 #[cycle(regions)]
-pub fn write_nodes(alloc: Global, w: &mut Writer, region: &Region) -> Result<Scope, NoMemory>
+pub fn write_nodes(alloc: Global, w: &mut Writer, region: &Region) -> Result<Box<Scope>, NoMemory>
     requires shaped { RegionShaped region.now }
     requires room { HasRoom w.old (region_values region.now) (region_labels region.now) }
     ensures lines { OnOk result ((k : Code) → w.new.lines ++ code_lines w.new.label k
@@ -38,7 +38,7 @@ pub fn write_nodes(alloc: Global, w: &mut Writer, region: &Region) -> Result<Sco
     ensures next { OnOk result (w.new.next ≡ w.old.next + region_names region.now) }
     ensures label { OnOk result (w.new.label ≡ w.old.label + region_labels region.now) }
     ensures scope { IfOk result (λ scope. (o : Origin) →
-        port_in scope o ≡ region_port w.old.next region.now o) }
+        port_in scope.value o ≡ region_port w.old.next region.now o) }
 {
     let args = ports_of(alloc, &region.args, w.next)?;
     w.next = args.end;
@@ -47,7 +47,7 @@ pub fn write_nodes(alloc: Global, w: &mut Writer, region: &Region) -> Result<Sco
         let outputs = write_step(alloc, w, &scope, node)?;
         scope.add(node.id, outputs)?;
     }
-    Ok(scope)
+    Ok(Box::new(alloc, scope)?)
 }
 
 // Writes the step of a node, and gives its outputs.
@@ -177,9 +177,10 @@ fn write_first(
     ensures outputs { IfOk result (λ outputs. outputs ≡ ports_from
         (w.old.next + region_names region.now) (result_kinds region.now)) }
 {
-    let scope = write_entered(alloc, w, entries, region)?;
+    let boxed = write_entered(alloc, w, entries, region)?;
+    let scope = boxed.as_ref();
     let first = w.next;
-    let outputs = write_exits(alloc, w, &scope, &region.results, first)?;
+    let outputs = write_exits(alloc, w, scope, &region.results, first)?;
     w.next = outputs.end;
     Ok(outputs)
 }
@@ -234,8 +235,9 @@ fn write_other(
 {
     w.push(Line::Jump { label: end })?;
     w.push(Line::Label { number: label })?;
-    let scope = write_entered(alloc, w, entries, region)?;
-    write_exits(alloc, w, &scope, &region.results, outputs)?;
+    let boxed = write_entered(alloc, w, entries, region)?;
+    let scope = boxed.as_ref();
+    write_exits(alloc, w, scope, &region.results, outputs)?;
     Ok(())
 }
 
@@ -246,7 +248,7 @@ fn write_entered(
     w: &mut Writer,
     entries: &[u32],
     region: &Region,
-) -> Result<Scope, NoMemory>
+) -> Result<Box<Scope>, NoMemory>
     requires shaped { RegionShaped region.now }
     requires room { HasRoom w.old (region_values region.now) (region_labels region.now) }
     ensures lines { OnOk result ((k : Code) → w.new.lines ++ code_lines w.new.label k
@@ -255,7 +257,7 @@ fn write_entered(
     ensures next { OnOk result (w.new.next ≡ w.old.next + region_names region.now) }
     ensures label { OnOk result (w.new.label ≡ w.old.label + region_labels region.now) }
     ensures scope { IfOk result (λ scope. (o : Origin) →
-        port_in scope o ≡ region_port w.old.next region.now o) }
+        port_in scope.value o ≡ region_port w.old.next region.now o) }
 {
     let base = w.next;
     write_moves(w, &region.args, entries, base)?;
@@ -286,7 +288,8 @@ fn write_loop(
     w.label += 2;
     write_moves(w, &region.args, entries, base)?;
     w.push(Line::Label { number: first })?;
-    let scope = write_nodes(alloc, w, region)?;
+    let boxed = write_nodes(alloc, w, region)?;
+    let scope = boxed.as_ref();
     let results = scope.names(alloc, &region.results)?;
     write_turn(alloc, w, &region.args, &results, base, first)
 }

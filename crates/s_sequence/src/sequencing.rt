@@ -40,8 +40,9 @@ fn write_lambda(alloc: Global, w: &mut Writer, lambda: &Lambda) -> Result<(), No
 {
     let params = numbers(alloc, lambda.params)?;
     w.push(Line::Enter { params })?;
-    let scope = write_nodes(alloc, w, &lambda.body)?;
-    let value = value_of(&scope, &lambda.body);
+    let boxed = write_nodes(alloc, w, &lambda.body)?;
+    let scope = boxed.as_ref();
+    let value = value_of(scope, &lambda.body);
     w.push(Line::Leave { value })
 }
 

@@ -1,5 +1,5 @@
 -- Every name of the linear code of a well-formed lambda is below the number of the lambda's values.
-use Rattle.std.proofs.Common.{◌≡◌, ◌<◌, ◌≤◌, ℕ, zero, suc, ◌+◌, Bool, true, false, List, [], ◌∷◌, ◌++◌, map, length, take, refl, ap, arith}
+use Rattle.std.proofs.Common.{◌≡◌, ◌<◌, ◌≤◌, ℕ, zero, suc, ◌+◌, Bool, true, false, List, [], ◌∷◌, ◌++◌, map, length, take, refl, ap, ◌∙◌, arith}
 use Rattle.std.proofs.lemmas.Bool.{and_from, and_parts, lt-ltb, ltb-true}
 use Rattle.std.specs.Prelude.{◌&&◌, ◌==◌, nat_lt, replicate, if◌then◌else◌}
 use Rattle.std.specs.declared.option.Option.{Option}
@@ -15,6 +15,7 @@ use Rattle.g_graph.specs.Signatures.{outputs_of, result_kinds, output_kinds}
 use Rattle.g_graph.specs.Count.{region_values, node_values, nodes_values, regions_values}
 use Rattle.g_graph.specs.Scope.{each_node}
 use Rattle.g_graph.specs.WellFormed.{all_of, all_regions, are, same, kinds_of, every_region, every_in_node, every_in_nodes, every_in_regions, has_its_width, has_its_object, regions_fit, theta_has_states, node_fits, results_are_last, returns_state, region_has_one_state_each, region_fits, body_fits, numbers_fit, leaves_fit, IsWellFormed}
+use Rattle.g_graph.proofs.lemmas.Nodes.{same_kinds}
 use Rattle.s_linear.specs.Linear.{Code, no_steps}
 use Rattle.s_linear.specs.Lines.{done, names_below, lines}
 use Rattle.val_core.specs.Numbers.{numbers_from}
@@ -410,3 +411,24 @@ names_are_below l w =
     (body_passes n (length l.objects) l.body (names_values l.body)
     ((and_parts (body_fits l && numbers_fit l) (every_region (region_fits (length l.objects)) l.body) own).1))
     (cons n (value_name l.body) [] (value_below n (length l.objects) l.body (names_values l.body)) refl)
+
+-- ---- parameters
+
+firsts_are : (n k : ℕ) (ks : List Kind) → k < n → value_args (take k (replicate n Value ++ ks)) ≡ k
+firsts_are zero k ks e = absurd (omega (arith, e))
+firsts_are (suc n) zero ks e = refl
+firsts_are (suc n) (suc k) ks e = ap suc (firsts_are n k ks (omega (arith, e)))
+
+pub params_first : (l : PlainLambda) → IsWellFormed l → ((k : ℕ) → k < l.params → name_of (args_of l.body) 0 no_names (Arg k) ≡ k) × (value_args (args_of l.body) ≡ l.params)
+params_first l w =
+    let own : (body_fits l && numbers_fit l && every_region (region_fits (length l.objects)) l.body) ≡ true =
+    (and_parts (body_fits l && numbers_fit l && every_region (region_fits (length l.objects)) l.body) (all_of (λ o. leaves_fit o.size 0 o.leaves) l.objects) w).0 in
+    let fit : body_fits l ≡ true = (and_parts (body_fits l) (numbers_fit l)
+    ((and_parts (body_fits l && numbers_fit l) (every_region (region_fits (length l.objects)) l.body) own).0)).0 in
+    let args : args_of l.body ≡ replicate l.params Value ++ Memory ∷ Io ∷ [] =
+    same_kinds (args_of l.body) (replicate l.params Value ++ Memory ∷ Io ∷ []) ((and_parts (same (args_of l.body) (replicate l.params Value ++ Memory ∷ Io ∷ [])) _ fit).0) in (
+      (λ k e. let first : value_args (take k (args_of l.body)) ≡ k =
+          ap (λ ks. value_args (take k ks)) args ∙ firsts_are l.params k (Memory ∷ Io ∷ []) e in
+          omega (arith, first)),
+      (ap value_args args ∙ body_values l.params),
+    )

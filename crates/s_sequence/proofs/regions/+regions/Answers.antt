@@ -16,6 +16,7 @@ use Rattle.s_linear.specs.Lines.{Line, done, jump, label, code_lines, branch_zer
 use Rattle.val_core.specs.Numbers.{numbers_from}
 use Rattle.s_sequence.specs.Sequence.{values_in, value_args, kept, moves, region_names, regions_names, node_names, nodes_names, nodes_named, nodes_code, branch_code, outputs_at, loop_results, predicate_name}
 use Rattle.s_sequence.specs.Ports.{PlainPorts, ports_from, port_at}
+use Rattle.s_sequence.specs.declared.scope.Scope.{Scope}
 use Rattle.s_sequence.specs.Scope.{port_in, name_in, kind_in, names_in}
 use Rattle.s_sequence.specs.Shape.{NodeShaped, NodesShaped, RegionsShaped}
 use Rattle.s_sequence.specs.Writer.{PlainWriter, with_lines}
@@ -37,6 +38,10 @@ next_of w = w.next
 
 abbrev label_of : PlainWriter → ℕ
 label_of w = w.label
+
+-- what a scope says that is equal to another
+seen : (s t : Scope) (r : RegionTree) (base : ℕ) → s ≡ t → ((o : Origin) → port_in t o ≡ region_port base r o) → (o : Origin) → port_in s o ≡ region_port base r o
+seen s t r base e h o = ap (λ x. port_in x o) e ∙ h o
 
 -- ---- a region's nodes
 
@@ -116,9 +121,10 @@ write_nodes-returns-clause-scope t c =
     let items = c.deref-node-items.result.now in
     let inv = c.loop-node.invariant in
     let none : drop c.loop-node.node-index items ≡ [] = drop_of_length-le items c.loop-node-test.false in
-    region_ports c.args.region.now scope c.args.w.now.next inv.args
+    seen c.in_ok-new.field-0.value scope c.args.region.now c.args.w.now.next c.in_ok-new.ensures.ok
+    (region_ports c.args.region.now scope c.args.w.now.next inv.args
     (λ n p. ap (λ zs. nodes_named (nodes_of zs) c.loop-node.w.next (names_in scope) n p) (sym none) ∙ inv.names n p)
-    (λ n p. ap (λ zs. kind_after (nodes_of zs) n p (kind_in scope (Out n p))) (sym none) ∙ inv.kinds n p)
+    (λ n p. ap (λ zs. kind_after (nodes_of zs) n p (kind_in scope (Out n p))) (sym none) ∙ inv.kinds n p))
 
 -- ---- branches
 
@@ -143,33 +149,33 @@ pub write_first-write_exits-requires : goal.write_first-write_exits-requires
 write_first-write_exits-requires t c =
     let r = c.args.region.now in
     let e : c.deref.result.now ≡ results_of r = c.deref.ensures.value ∙ ap results_of c.region.view_is in
-    let n : c.w.inside.next ≡ c.args.w.now.next + region_names r = ap next_of c.w.view_is ∙ c.in_ok-scope.ensures.next in
-    omega (arith, n, exits_room r c.deref.result.now (kind_in c.in_ok-scope.scope) e, c.requires.room.for_names)
+    let n : c.w.inside.next ≡ c.args.w.now.next + region_names r = ap next_of c.w.view_is ∙ c.in_ok-boxed.ensures.next in
+    omega (arith, n, exits_room r c.deref.result.now (kind_in c.as_ref-scope.result.now) e, c.requires.room.for_names)
 
 pub write_first-returns-clause-lines : goal.write_first-returns-clause-lines
 write_first-returns-clause-lines t c =
     let r = c.args.region.now in
     let w = c.args.w.now in
-    let scope = c.in_ok-scope.scope in
+    let scope = c.as_ref-scope.result.now in
     let results = c.deref.result.now in
     let e : results ≡ results_of r = c.deref.ensures.value ∙ ap results_of c.region.view_is in
-    let n : c.w.inside.next ≡ w.next + region_names r = ap next_of c.w.view_is ∙ c.in_ok-scope.ensures.next in
+    let n : c.w.inside.next ≡ w.next + region_names r = ap next_of c.w.view_is ∙ c.in_ok-boxed.ensures.next in
     ap lines_of c.w-2.view_is
-    ∙ branch_written w.next scope r results e c.in_ok-scope.ensures.scope c.args.entries.now (w.next + region_names r) w.label c.write_entered.new.w.label w.lines
+    ∙ branch_written w.next scope r results e (seen _ _ r _ c.as_ref-scope.ensures c.in_ok-boxed.ensures.scope) c.args.entries.now (w.next + region_names r) w.label c.write_entered.new.w.label w.lines
     c.write_entered.new.w.lines
     c.write_exits.new.w.lines
-    c.in_ok-scope.ensures.lines
+    c.in_ok-boxed.ensures.lines
     (ap lines_of c.in_ok-outputs.ensures.lines ∙ ap (λ m. lines_of
     (with_lines c.write_entered.new.w (map done (moves m (kept (map (kind_in scope) results) (map (name_in scope) results)))))) n)
 
 pub write_first-returns-clause-next : goal.write_first-returns-clause-next
 write_first-returns-clause-next t c =
     let r = c.args.region.now in
-    let scope = c.in_ok-scope.scope in
+    let scope = c.as_ref-scope.result.now in
     let results = c.deref.result.now in
     let e : results ≡ results_of r = c.deref.ensures.value ∙ ap results_of c.region.view_is in
-    let n : c.w.inside.next ≡ c.args.w.now.next + region_names r = ap next_of c.w.view_is ∙ c.in_ok-scope.ensures.next in
-    let kinds = kinds_written c.args.w.now.next scope r results e c.in_ok-scope.ensures.scope in
+    let n : c.w.inside.next ≡ c.args.w.now.next + region_names r = ap next_of c.w.view_is ∙ c.in_ok-boxed.ensures.next in
+    let kinds = kinds_written c.args.w.now.next scope r results e (seen _ _ r _ c.as_ref-scope.ensures c.in_ok-boxed.ensures.scope) in
     omega (
       arith,
       ap (λ (p : PlainPorts). p.end) c.outputs.view_is,
@@ -182,22 +188,22 @@ pub write_other-write_exits-requires : goal.write_other-write_exits-requires
 write_other-write_exits-requires t c =
     let r = c.args.region.now in
     let e : c.deref.result.now ≡ results_of r = c.deref.ensures.value ∙ ap results_of c.region.view_is in
-    omega (arith, exits_room r c.deref.result.now (kind_in c.in_ok-scope.scope) e, c.requires.room.for_names, c.requires.outputs)
+    omega (arith, exits_room r c.deref.result.now (kind_in c.as_ref-scope.result.now) e, c.requires.room.for_names, c.requires.outputs)
 
 pub write_other-returns-clause-lines : goal.write_other-returns-clause-lines
 write_other-returns-clause-lines t c =
     let r = c.args.region.now in
     let w = c.args.w.now in
     let two = c.push-2.new.self in
-    let scope = c.in_ok-scope.scope in
+    let scope = c.as_ref-scope.result.now in
     let results = c.deref.result.now in
     let e : results ≡ results_of r = c.deref.ensures.value ∙ ap results_of c.region.view_is in
     let heads : two ≡ with_lines (with_lines w (jump c.args.end ∷ [])) (label c.args.label ∷ []) =
     c.in_ok-push-2.ensures ∙ ap (λ v. with_lines v (label c.args.label ∷ [])) c.in_ok-push.ensures in
-    branch_written two.next scope r results e c.in_ok-scope.ensures.scope c.args.entries.now c.args.outputs two.label c.write_entered.new.w.label two.lines
+    branch_written two.next scope r results e (seen _ _ r _ c.as_ref-scope.ensures c.in_ok-boxed.ensures.scope) c.args.entries.now c.args.outputs two.label c.write_entered.new.w.label two.lines
     c.write_entered.new.w.lines
     c.write_exits.new.w.lines
-    c.in_ok-scope.ensures.lines (ap lines_of c.in_ok-write_exits.ensures.lines)
+    c.in_ok-boxed.ensures.lines (ap lines_of c.in_ok-write_exits.ensures.lines)
     ∙ ap (λ (v : PlainWriter). v.lines ++ code_lines v.label (branch_code c.args.entries.now c.args.outputs v.next r)) heads
     ∙ append_assoc (w.lines ++ jump c.args.end ∷ []) (label c.args.label ∷ []) (code_lines w.label (branch_code c.args.entries.now c.args.outputs w.next r))
     ∙ append_assoc w.lines (jump c.args.end ∷ []) (label c.args.label ∷ code_lines w.label (branch_code c.args.entries.now c.args.outputs w.next r))
@@ -412,7 +418,7 @@ write_loop-write_turn-requires-clause-names t c =
     let r = c.args.region.now in
     let e : c.deref-3.result.now ≡ args_of r = c.deref-3.ensures.value ∙ ap args_of c.region.view_is in
     let next = ap next_of c.in_ok-push.ensures ∙ ap next_of c.in_ok-write_moves.ensures ∙ ap next_of c.w.view_is in
-    omega (arith, c.in_ok-scope.ensures.next, next, ap value_args e, loop_room r, names_values r, c.requires.room.for_names)
+    omega (arith, c.in_ok-boxed.ensures.next, next, ap value_args e, loop_room r, names_values r, c.requires.room.for_names)
 
 pub write_loop-write_turn-requires-clause-back : goal.write_loop-write_turn-requires-clause-back
 write_loop-write_turn-requires-clause-back t c =
@@ -427,7 +433,7 @@ write_loop-returns-clause-lines t c =
     let args = c.deref.result.now in
     let results = c.deref-2.result.now in
     let names = c.deref-4.result.now in
-    let scope = c.in_ok-scope.scope in
+    let scope = c.as_ref-scope.result.now in
     let entries = c.args.entries.now in
     let a : args ≡ args_of r = c.deref.ensures.value ∙ ap args_of c.region.view_is in
     let b : results ≡ results_of r = c.deref-2.ensures.value ∙ ap results_of c.region.view_is in
@@ -443,9 +449,9 @@ write_loop-returns-clause-lines t c =
     let next_is : c.push.new.self.next ≡ w.next = ap next_of c.in_ok-push.ensures ∙ ap next_of c.in_ok-write_moves.ensures ∙ base in
     let body : (k : Code) → c.write_nodes.new.w.lines ++ code_lines c.write_nodes.new.w.label k ≡ c.push.new.self.lines ++ code_lines (w.label + 2)
     (region_code w.next r k) = λ k.
-    c.in_ok-scope.ensures.lines k ∙ ap (λ m. c.push.new.self.lines ++ code_lines m (region_code c.push.new.self.next r k)) label_is
+    c.in_ok-boxed.ensures.lines k ∙ ap (λ m. c.push.new.self.lines ++ code_lines m (region_code c.push.new.self.next r k)) label_is
     ∙ ap (λ m. c.push.new.self.lines ++ code_lines (w.label + 2) (region_code m r k)) next_is in
-    let ports = λ (o : Origin). c.in_ok-scope.ensures.scope o ∙ ap (λ m. region_port m r o) next_is in
+    let ports = λ (o : Origin). ap (λ s. port_in s o) c.as_ref-scope.ensures ∙ c.in_ok-boxed.ensures.scope o ∙ ap (λ m. region_port m r o) next_is in
     let n3 = c.write_nodes.new.w.next in
     let l3 = c.write_nodes.new.w.lines in
     let end : ℕ → ℕ → List Kind → List Line = λ m f ks.
@@ -455,7 +461,7 @@ write_loop-returns-clause-lines t c =
     (λ h. loop_written r args results names scope a b d entries w.next w.label w.lines c.write_moves.new.w.lines c.push.new.self.lines l3 c.write_turn.new.w.lines
     c.write_nodes.new.w.label n3
     moved marked body
-    (c.in_ok-scope.ensures.next ∙ ap (λ m. m + region_names r) next_is) ports
+    (c.in_ok-boxed.ensures.next ∙ ap (λ m. m + region_names r) next_is) ports
     (h ∙ ap (λ m. end m c.w.inside.label c.deref-3.result.now) base ∙ ap (λ f. end w.next f c.deref-3.result.now) first ∙ ap (λ ks. end w.next w.label ks) same))
     c.write_turn.ensures.lines
 
