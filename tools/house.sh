@@ -35,7 +35,7 @@ if [ "${1:-}" = --try ]; then
 session@README.md@s/before 219/before 218/@differs at: ./rvcc build examples/squares.c
 map@crates.txt@/^r_cne:/s/$/ r_copy/@the row of .*r_cne
 map@crates/board_core/src/lib.rt@s,^//! Always: ,//! ,@the row of .*board_core
-house@docs/ARCHITECTURE.md@s/images_keep_meaning| cc_compile_keeps/globals_are_shown| cc_compile_keeps/@docs/ARCHITECTURE.md:[0-9]*: cc_emit_keeps has no law globals_are_shown
+house@docs/ARCHITECTURE.md@s/images_keep_meaning| cc_source_keeps/globals_are_shown| cc_source_keeps/@docs/ARCHITECTURE.md:[0-9]*: cc_emit_keeps has no law globals_are_shown
 house@docs/ARCHITECTURE.md@s/globals_are_shown| cc_emit_keeps/globals_are_shown| cc_compile_keeps/@docs/ARCHITECTURE.md:[0-9]*: cc_compile_keeps does not cite globals_are_shown
 read@docs/THEOREM.md@/\*\*`meaning`/s/\*\*[0-9,]*\*\*/**1,555**/@docs/THEOREM.md:[0-9]*: the table is stale
 EDITS

@@ -85,6 +85,7 @@ compare immediates ''
         done
     done
     printf " jal a2, 1f\n ebreak\n1:$mix la t2, 2f\n jalr a2, 1(t2)\n ebreak\n2:$mix la t2, 3f + 2047\n jalr a2, -2047(t2)\n ebreak\n3:$mix"
+    printf " la t2, 4f - 2047\n jalr a2, 2047(t2)\n ebreak\n4:$mix la t2, 5f + 2048\n jalr a2, -2048(t2)\n ebreak\n5:$mix"
     printf "$finish$word"
 } >"$folder/jumps.s"
 compare jumps ''

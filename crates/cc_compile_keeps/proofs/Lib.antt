@@ -1,4 +1,3 @@
 mod ProgramFits
 mod ConstantRun
 mod ConstantExits
-mod Programs

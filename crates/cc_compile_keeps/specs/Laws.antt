@@ -1,31 +1,20 @@
 -- Laws of the meaning of images.
-use Rattle.std.specs.Prelude.{ℕ, List}
+use Rattle.std.specs.Prelude.{ℕ, Bool, List}
 use Rattle.c_typed.specs.Typed.{ProgramTree}
-use Rattle.c_typed.specs.WellTyped.{IsWellTyped}
 use Rattle.g_graph.specs.declared.steps.Rule.{Rule}
-use Rattle.g_graph.specs.Plain.{PlainLambda}
+use Rattle.g_graph.specs.Plain.{PlainLambda, PlainOptimised}
 use Rattle.g_build_def.specs.Functions.{graph, omega}
-use Rattle.g_build_laws.specs.BuiltLaws.{IsSmall}
-use Rattle.r_edit.specs.Steps.{MayStandForAll}
-use Rattle.g_build_keeps.specs.Groups.{HasFewGroups}
-use Rattle.cc_emit_def.specs.Image.{CanEmit, file_of_program, lambdas_of}
+use Rattle.g_build_keeps.specs.Laws.{HasMeaning}
+use Rattle.g_pass_def.specs.Answers.{AreAnswers}
+use Rattle.g_pass_def.specs.Laws.{HoldsDeps, with_answers}
+use Rattle.g_pass.specs.Sweep.{rules}
+use Rattle.cc_emit_def.specs.Image.{file_of_program, lambdas_of}
 use Rattle.cc_source_laws.specs.SourceLaws.{AreBytes}
 use Rattle.cc_source.specs.Accepted.{Accepts}
 use Rattle.cc_compile.specs.Compiled.{image_of, IsImageUnder}
 use Rattle.cc_compile_keeps.specs.Meaning.{KeepsMeaning}
 
--- The image of a program does what the program does, with every list of lambdas that may stand for the built ones.
-abbrev pub ProgramsKeepMeaning : Type 0
-ProgramsKeepMeaning =
-    (p : ProgramTree) → IsWellTyped p → HasFewGroups p → (ls : List PlainLambda) → MayStandForAll (graph p) ls → CanEmit (omega p) ls →
-    KeepsMeaning p ls (file_of_program (omega p) ls)
-
--- So it is with the built lambdas of a program within the limits.
-abbrev pub BuiltProgramsKeepMeaning : Type 0
-BuiltProgramsKeepMeaning =
-    (p : ProgramTree) → IsWellTyped p → HasFewGroups p → IsSmall p → KeepsMeaning p (graph p) (file_of_program (omega p) (graph p))
-
--- So the image of a source that is accepted does what its program does.
+-- The image of a source that is accepted does what its program does.
 abbrev pub AcceptedSourcesKeepMeaning : Type 0
 AcceptedSourcesKeepMeaning =
     (source : List ℕ) → AreBytes source → (p : ProgramTree) → Accepts source p → KeepsMeaning p (graph p) (image_of p)
@@ -35,3 +24,19 @@ abbrev pub RecipesKeepMeaning : Type 0
 RecipesKeepMeaning =
     (source : List ℕ) → AreBytes source → (p : ProgramTree) → Accepts source p → (recipe : List Rule) (bytes : List ℕ) (image : IsImageUnder recipe p bytes) →
     KeepsMeaning p (lambdas_of image.answers) bytes
+
+-- This holds of each list that has the answers of a set of functions, and the built lambdas of the others: for every source
+-- that is accepted, every recipe, and every set that has what each of its members calls in other units.
+abbrev pub WithSomeAnswers : (ProgramTree → List PlainLambda → Type 0) → Type 0
+WithSomeAnswers Holds =
+    (source : List ℕ) → AreBytes source → (p : ProgramTree) → Accepts source p → (recipe : List Rule) (answers : List PlainOptimised) →
+    (all : AreAnswers rules recipe (graph p) answers) → (chosen : ℕ → Bool) → HoldsDeps chosen all.deps →
+    Holds p (with_answers chosen (graph p) answers)
+
+-- Such a list has the meaning of the program call for call,
+abbrev pub SomeAnswersHaveMeaning : Type 0
+SomeAnswersHaveMeaning = WithSomeAnswers HasMeaning
+
+-- and its image does what the program does.
+abbrev pub SomeAnswersKeepMeaning : Type 0
+SomeAnswersKeepMeaning = WithSomeAnswers (λ p ks. KeepsMeaning p ks (file_of_program (omega p) ks))

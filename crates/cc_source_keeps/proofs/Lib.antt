@@ -1,3 +1,4 @@
 mod Small
 mod Programs
 mod Kept
+mod Calls

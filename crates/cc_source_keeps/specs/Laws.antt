@@ -10,6 +10,7 @@ use Rattle.g_build.specs.Passed.{limit_passed}
 use Rattle.r_edit.specs.Steps.{MayStandForAll}
 use Rattle.g_pass_def.specs.Kept.{IsKeptBy}
 use Rattle.g_build_keeps.specs.Groups.{HasFewGroups}
+use Rattle.g_build_keeps.specs.Laws.{HasMeaning}
 use Rattle.cc_emit_def.specs.Image.{CanEmit, file_of_program}
 use Rattle.cc_source_laws.specs.SourceLaws.{AreBytes}
 use Rattle.cc_source.specs.Accepted.{Accepts}
@@ -48,3 +49,9 @@ abbrev pub KeptListsKeepMeaning : Type 0
 KeptListsKeepMeaning =
     (source : List ℕ) → AreBytes source → (p : ProgramTree) → Accepts source p → (ks : List PlainLambda) → IsKeptBy (graph p) ks →
     KeepsMeaning p ks (file_of_program (omega p) ks)
+
+-- Such a list has the meaning of the program call for call too.
+abbrev pub KeptListsHaveMeaning : Type 0
+KeptListsHaveMeaning =
+    (source : List ℕ) → AreBytes source → (p : ProgramTree) → Accepts source p → (ks : List PlainLambda) → IsKeptBy (graph p) ks →
+    HasMeaning p ks

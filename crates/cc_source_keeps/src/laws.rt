@@ -1,7 +1,7 @@
 //! Laws of programs and of lists that keep their graphs, for the proofs of the crates above: each
 //! is the contract of a function that does nothing.
 
-ghost use Rattle.cc_source_keeps.specs.Laws.{BuiltProgramsKeepMeaning, KeptListsCanBeEmitted, KeptListsKeepMeaning, ProgramsCanBeEmitted, ProgramsKeepMeaning, UnlimitedAreSmall};
+ghost use Rattle.cc_source_keeps.specs.Laws.{BuiltProgramsKeepMeaning, KeptListsCanBeEmitted, KeptListsHaveMeaning, KeptListsKeepMeaning, ProgramsCanBeEmitted, ProgramsKeepMeaning, UnlimitedAreSmall};
 
 /// A program that passes no limit is small enough for an image.
 pub fn unlimited_are_small()
@@ -46,4 +46,17 @@ pub fn kept_lists_keep_meaning()
     programs_can_be_emitted();
     cc_source_laws::laws::checked_are_well_typed();
     cc_source_laws::laws::checked_have_few_groups();
+}
+
+/// Every list that keeps the graph of the program of such a source has its meaning too: of each
+/// call on sound values and a sound memory that no bound makes undefined, each bounded run of the
+/// source is within a run of the list at some bound, and the other way round, with stacks of calls
+/// no deeper.
+pub fn kept_lists_have_meaning()
+    ensures { KeptListsHaveMeaning }
+{
+    cc_source_laws::laws::accepted_keep_meaning();
+    cc_source_laws::laws::checked_are_well_typed();
+    g_build_laws::laws::well_typed_are_built();
+    r_edit::steps::lists_compose();
 }

@@ -1,7 +1,7 @@
 //! The laws of accepted sources: which lists of lambdas an image may have, and what that image
 //! does.
-//! Promise: the image of an accepted source does what the source does, with every list that keeps
-//! the graph of its program. Nothing in it runs, and it takes no memory.
+//! Promise: every list that keeps the graph of an accepted source means what the source means, call
+//! for call, and its image does what the source does. Nothing in it runs, and it takes no memory.
 #![tactic(auto)]
 
 pub mod laws;

@@ -142,6 +142,9 @@ no_address_to_two_bytes = refl
 address_to_four_bytes : converted unsigned (At numbers 0) ≡ At numbers 0
 address_to_four_bytes = refl
 
+nothing_to_four_bytes : converted unsigned Bad ≡ Bad
+nothing_to_four_bytes = refl
+
 null_is_false : truth (pointer_to int) (Num 0) ≡ Some false
 null_is_false = refl
 

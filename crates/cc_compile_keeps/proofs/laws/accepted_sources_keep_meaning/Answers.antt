@@ -1,10 +1,6 @@
-use Rattle.std.proofs.Common.{length}
+use Rattle.g_build_def.specs.Functions.{graph}
 use Rattle.cc_compile_keeps.proofs.laws.accepted_sources_keep_meaning.Goals as goal
 
 pub returns : goal.returns
 returns c source bytes p accepted =
-    let checks = accepted.checks in
-    let has = checks.has_tree in
-    let typed = c.checked_are_well_typed.ensures source bytes has.tokens has.lexed checks.tree has.tree.shaped.0 has.tree.spells (length source) p checks.checked in
-    let few = c.checked_have_few_groups.ensures source bytes has.tokens has.lexed checks.tree has.tree.shaped.0 has.tree.spells (length source) p checks.checked in
-    c.programs_keep_meaning.ensures.built p typed.0 few (c.unlimited_are_small.ensures p typed.1 accepted.within)
+    c.kept_lists_keep_meaning.ensures source bytes p accepted (graph p) (c.steps_keep_lists.ensures.itself (graph p))

@@ -9,7 +9,5 @@ returns c source bytes p accepted recipe file image =
     let checks = accepted.checks in
     let has = checks.has_tree in
     let typed = c.checked_are_well_typed.ensures source bytes has.tokens has.lexed checks.tree has.tree.shaped.0 has.tree.spells (length source) p checks.checked in
-    let few = c.checked_have_few_groups.ensures source bytes has.tokens has.lexed checks.tree has.tree.shaped.0 has.tree.spells (length source) p checks.checked in
     let kept = c.answers_keep_lists.ensures.lists recipe (graph p) image.answers (c.well_typed_are_built.ensures p typed.0).complete image.made in
-    let can = c.answers_can_be_emitted.ensures p typed.0 typed.1 accepted.within recipe image.answers image.made in
-    subst (KeepsMeaning p (lambdas_of image.answers)) (sym image.file) (c.programs_keep_meaning.ensures.lists p typed.0 few (lambdas_of image.answers) kept.stands can)
+    subst (KeepsMeaning p (lambdas_of image.answers)) (sym image.file) (c.kept_lists_keep_meaning.ensures source bytes p accepted (lambdas_of image.answers) kept)
