@@ -40,9 +40,12 @@ if [ "${1:-}" = --try ]; then
 session@README.md@s/before 219/before 218/@README.md:[0-9]*: the session differs at: ./rvcc build examples/squares.c
 map@crates.txt@/^r_cne:/s/$/ r_copy/@the row of .*r_cne
 map@crates/board_core/src/lib.rt@s,^//! Always: ,//! ,@the row of .*board_core
-house@docs/ARCHITECTURE.md@s/images_keep_meaning| cc_compile_keeps/globals_are_shown| cc_compile_keeps/@docs/ARCHITECTURE.md:[0-9]*: cc_emit_keeps has no law globals_are_shown
-house@docs/NAMES.md@/^| `s_` /s/`c_lex`; //@crates.txt:[0-9]*: s_linear stands on c_lex, which its row of docs/NAMES.md does not name
+house@docs/NAMES.md@/^| `rv_`, /d@crates.txt:[0-9]*: rv_isa has no prefix of docs/NAMES.md
+house@docs/NAMES.md@s/ stale,//@crates.txt:[0-9]*: g_pass_stale has an ending that docs/NAMES.md does not list
+house@crates.txt@/^r_cne:/s/$/ board_core/@crates.txt:[0-9]*: r_cne stands on board_core, which its row of docs/NAMES.md does not name
+house@crates/g_graph_laws/src/laws.rt@s/fn formed_is_well_formed()/fn formed_is_well_formed(n: u32)/@g_graph_laws has a function that takes an argument
 house@docs/GLOSSARY.md@s/`Exi\(ted\)`/`Exo\1`/@docs/GLOSSARY.md:[0-9]*: no file of the crates has Exo
+house@docs/ARCHITECTURE.md@s/images_keep_meaning| cc_compile_keeps/globals_are_shown| cc_compile_keeps/@docs/ARCHITECTURE.md:[0-9]*: cc_emit_keeps has no law globals_are_shown
 house@docs/ARCHITECTURE.md@s/globals_are_shown| cc_emit_keeps/globals_are_shown| cc_compile_keeps/@docs/ARCHITECTURE.md:[0-9]*: cc_compile_keeps does not cite globals_are_shown
 read@docs/THEOREM.md@/\*\*`meaning`/s/\*\*[0-9,]*\*\*/**1,555**/@docs/THEOREM.md:[0-9]*: the table is stale
 EDITS
@@ -50,14 +53,15 @@ EDITS
     exit 0
 fi
 
-# ---- names: the prefixes and endings in backquotes in the first cells of the two tables
+# ---- names: the prefixes and endings in backquotes in the first cells of the two tables, and the parts in the list
 
 cells() {
     sed -n "/^## $1\$/,/^## /p" docs/NAMES.md | grep '^| ' | sed '1d' | cut -d '|' -f 2 | grep -o '`[a-z_]*`' | tr -d '`'
 }
 cells Prefixes >"$folder/prefixes"
 cells Endings | grep '^_' >"$folder/endings"
-[ -s "$folder/prefixes" ] && [ -s "$folder/endings" ] || fail 'docs/NAMES.md has no table of prefixes or of endings'
+sed -n '/^Parts: /,/^$/{s/^Parts://;p;}' docs/NAMES.md | tr -cs 'a-z0-9' '\n' | sed -n 's/^./_&/p' >"$folder/parts"
+[ -s "$folder/prefixes" ] && [ -s "$folder/endings" ] && [ -s "$folder/parts" ] || fail 'docs/NAMES.md has no table of prefixes, none of endings, or no list of parts'
 sed -n 's/^\([a-z][a-z0-9_]*\).*:\(.*\)/\1\2/p' crates.txt >"$folder/crates"
 
 # The line of a crate in crates.txt.
@@ -71,6 +75,8 @@ while read -r crate rest; do
         case $crate in "$prefix" | "$prefix"*_*) found=yes ;; "$prefix"*) case $prefix in *_) found=yes ;; esac ;; esac
     done <"$folder/prefixes"
     [ -n "$found" ] || fail "crates.txt:$(line_of "$crate"): $crate has no prefix of docs/NAMES.md"
+    grep -qx "$crate" "$folder/prefixes" || grep -qx "_${crate##*_}" "$folder/endings" "$folder/parts" \
+        || fail "crates.txt:$(line_of "$crate"): $crate has an ending that docs/NAMES.md does not list"
 done <"$folder/crates"
 for path in crates/*/; do
     crate=$(basename "$path")
@@ -81,13 +87,13 @@ done
 
 for path in crates/*_def/ crates/*_laws/ crates/*_keeps/; do
     crate=$(basename "$path")
-    wrong=$(grep -nE '\bfn [a-z0-9_]+(<[^>]*>)?\([^)]' "$path"src/*.rt "$path"src/*/*.rt 2>/dev/null | head -n 1)
+    wrong=$(grep -nE '\bfn [a-z0-9_]+(<[^>]*>)?\(([^)]|$)' "$path"src/*.rt "$path"src/*/*.rt 2>/dev/null | head -n 1)
     [ -z "$wrong" ] || fail "$crate has a function that takes an argument: $wrong"
     wrong=$(sed 's,//.*,,' "$path"src/*.rt "$path"src/*/*.rt 2>/dev/null | grep -E '\balloc\b|&mut' | head -n 1)
     [ -z "$wrong" ] || fail "$crate allocates or changes: $wrong"
 done
 
-# ---- edges: what a crate may stand on, by the rows of the prefixes, and what it must not
+# ---- edges: what a crate may stand on, by the rows of the prefixes, and by its ending
 
 # a row's number, and a prefix of it or, after `may`, what it may name
 sed -n '/^## Prefixes$/,/^## /p' docs/NAMES.md | awk -F '|' '
@@ -112,10 +118,6 @@ awk '
         for (i = 2; i <= NF; i++) {
             if (!is_test($1) && !may_name(row_of($1), $i)) { print $1 " stands on " $i ", which its row of docs/NAMES.md does not name"; exit 1 }
             wrong = ""
-            if ($1 ~ /^r_/ && $i ~ /^(board|call|c|s|a|rv|cc)_/ && !is_test($1)) wrong = "a rule"
-            if ($1 ~ /^s_/ && $i ~ /^c_/ && $i != "c_lex" && !is_test($1)) wrong = "sequential code"
-            if ($1 ~ /^(board|call)_/ && $i ~ /^(c|g|r|s|a|rv|cc)_/ && !is_test($1)) wrong = "a board"
-            if ($1 ~ /^c_/ && $i ~ /^(g|r|s|a|rv|cc)_/ && !is_test($1)) wrong = "the language"
             if ($1 ~ /_def$/ && $i ~ /_keeps$/) wrong = "a definition"
             if (is_test($i) && !is_test($1)) wrong = "code"
             if (wrong != "") { print $1 " stands on " $i ", which " wrong " must not"; exit 1 }
