@@ -13,12 +13,14 @@ script=tools/house.sh
 # ---- house.sh --try: each edit of the table, made in a copy, has to be refused by the script, with the line, that it names
 
 if [ "${1:-}" = --try ]; then
-    # The program that the session of the copy runs: it has the times of its sources. Where one would have to be built, there is none.
+    # Nothing is built here: where there is no program of these sources, the session's edit is not tried.
     mkdir "$folder/none" && printf '#!/bin/sh\nexit 1\n' >"$folder/none/rt" && chmod +x "$folder/none/rt" || exit 1
-    has_program=$(PATH=$folder/none:$PATH TMPDIR=$folder sh tools/program 2>/dev/null)
+    export PATH="$folder/none:$PATH" TMPDIR="$folder"
+    has_program=$(sh tools/program 2>/dev/null)
     copy=$folder/copy
     mkdir "$copy" && find .ci README.md HANDLES bin crates.txt crates docs examples rows rvcc tools -path '*/out' -prune -o -type f -print \
         | tr '\n' '\0' | xargs -0 cp -p --parents -t "$copy" || fail 'there is no room for a copy'
+    # With the times of its sources, so that it is taken in the copy too.
     built=crates/cc_main/out/cc_main
     [ ! -x $built ] || cp -p --parents -t "$copy" $built || fail 'there is no room for a copy'
     (cd "$copy" && sh tools/map.sh --write && sh tools/read.sh --write) || fail 'the copy is refused before an edit'
@@ -44,6 +46,8 @@ house@docs/NAMES.md@/^| `rv_`, /d@crates.txt:[0-9]*: rv_isa has no prefix of doc
 house@docs/NAMES.md@s/ stale,//@crates.txt:[0-9]*: g_pass_stale has an ending that docs/NAMES.md does not list
 house@crates.txt@/^r_cne:/s/$/ board_core/@crates.txt:[0-9]*: r_cne stands on board_core, which its row of docs/NAMES.md does not name
 house@crates/g_graph_laws/src/laws.rt@s/fn formed_is_well_formed()/fn formed_is_well_formed(n: u32)/@g_graph_laws has a function that takes an argument
+house@crates/limits/src/lib.rt@1s/[.]$/, with the names by which the crates above know it, and with what it is that each of them counts./@crates/limits/src/lib.rt:1: the first sentence is longer than 110 characters
+house@crates/g_pass_stale/proofs/lemmas.antt@1d@files of proofs begin with no comment
 house@docs/GLOSSARY.md@s/`Exi\(ted\)`/`Exo\1`/@docs/GLOSSARY.md:[0-9]*: no file of the crates has Exo
 house@docs/ARCHITECTURE.md@s/images_keep_meaning| cc_compile_keeps/globals_are_shown| cc_compile_keeps/@docs/ARCHITECTURE.md:[0-9]*: cc_emit_keeps has no law globals_are_shown
 house@docs/ARCHITECTURE.md@s/globals_are_shown| cc_emit_keeps/globals_are_shown| cc_compile_keeps/@docs/ARCHITECTURE.md:[0-9]*: cc_compile_keeps does not cite globals_are_shown
