@@ -200,12 +200,11 @@ awk -v known="$folder/known" '
         for (i = 1; i <= n; i++) if (parts[i] ~ /^[A-Za-z][A-Za-z0-9_]*[A-Za-z0-9]$/ && !(parts[i] in crate)) print $1, parts[i]
     }
 ' "$folder/words" >"$folder/asked"
-sed 's/.* //' "$folder/asked" | LC_ALL=C sort -u >"$folder/names"
-find crates -path '*/out' -prune -o \( -name '*.rt' -o -name '*.antt' -o -name '*.edit' \) -print | tr '\n' '\0' \
-    | LC_ALL=C xargs -0 grep -howFf "$folder/names" >"$folder/there.all"
-sed 's,.*/,,; s,[.][a-z]*$,,' "$folder/files" >>"$folder/there.all"
-{ cat docs/prices.tsv tools/* rows/*.py; } | LC_ALL=C grep -owFf "$folder/names" >>"$folder/there.all"
-LC_ALL=C sort -u "$folder/there.all" >"$folder/there"
+{
+    find crates -path '*/out' -prune -o \( -name '*.rt' -o -name '*.antt' -o -name '*.edit' \) -print | tr '\n' '\0' | xargs -0 cat
+    cat docs/prices.tsv tools/* rows/*.py
+    sed 's,.*/,,; s,[.][a-z]*$,,' "$folder/files"
+} | LC_ALL=C tr -cs 'A-Za-z0-9_' '\n' | LC_ALL=C sort -u >"$folder/there"
 awk -v list="$folder/there" '
     BEGIN { while ((getline line < list) > 0) there[line] = 1 }
     $2 ~ /^X_|NAME$|^(transf_c_program_preservation|compile_correct|stage1|EOF)$/ { next }
