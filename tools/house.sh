@@ -40,8 +40,8 @@ if [ "${1:-}" = --try ]; then
         tried=$((tried + 1))
     done <<'EDITS'
 session@README.md@s/before 219/before 218/@README.md:[0-9]*: the session differs at: ./rvcc build examples/squares.c
-map@crates.txt@/^r_cne:/s/$/ r_copy/@the row of .*r_cne
-map@crates/board_core/src/lib.rt@s,^//! Always: ,//! ,@the row of .*board_core
+map@crates.txt@/^r_cne:/s/$/ r_copy/@docs/ARCHITECTURE.md:[0-9]*: the row of `r_cne` is stale
+map@crates/board_core/src/lib.rt@s,^//! Always: ,//! ,@docs/ARCHITECTURE.md:[0-9]*: the row of `board_core` is stale
 house@docs/NAMES.md@/^| `rv_`, /d@crates.txt:[0-9]*: rv_isa has no prefix of docs/NAMES.md
 house@docs/NAMES.md@s/ stale,//@crates.txt:[0-9]*: g_pass_stale has an ending that docs/NAMES.md does not list
 house@crates.txt@/^r_cne:/s/$/ board_core/@crates.txt:[0-9]*: r_cne stands on board_core, which its row of docs/NAMES.md does not name
@@ -135,16 +135,14 @@ find crates -path '*/out' -prune -o \( -path '*/src/*.rt' -o -path '*/specs/*.an
 tr '\n' '\0' <"$folder/headed" | xargs -0 awk '
     FNR == 1 && FILENAME ~ /\.rt$/ && !/^\/\/!/ { print FILENAME ":1: no head (//!)"; next }
     FNR == 1 && FILENAME ~ /\.antt$/ && !/^-- / { print FILENAME ":1: no head (-- )" }
-' >"$folder/wrong"
-[ ! -s "$folder/wrong" ] || fail "$(head -n 3 "$folder/wrong")"
+' >"$folder/wrong" && [ ! -s "$folder/wrong" ] || fail "$(head -n 3 "$folder/wrong")"
 grep -E '^crates/[a-z0-9_]*/src/(lib|main)[.]rt$' "$folder/headed" | tr '\n' '\0' | xargs -0 awk '
     function look() { if (match(text, /\.( |$)/) > 110) print file ":1: the first sentence is longer than 110 characters" }
     FNR == 1 { look(); file = FILENAME; text = ""; within = 1 }
     !/^\/\/!/ { within = 0 }
     within { sub(/^\/\/! ?/, ""); text = text (text == "" ? "" : " ") $0 }
     END { look() }
-' >"$folder/wrong"
-[ ! -s "$folder/wrong" ] || fail "$(head -n 3 "$folder/wrong")"
+' >"$folder/wrong" && [ ! -s "$folder/wrong" ] || fail "$(head -n 3 "$folder/wrong")"
 
 # Files of proofs that begin with no comment: there may be no more than there were.
 most_bare=374
@@ -188,8 +186,7 @@ awk -v files="$folder/files" -v known="$folder/known" '
         else if (first !~ /^(crates|docs|tools|examples|rows|\.ci)$/) next
         if (!matches(word)) print $1 " there is no " $2
     }
-' "$folder/words" >"$folder/wrong"
-[ ! -s "$folder/wrong" ] || fail "$(head -n 3 "$folder/wrong")"
+' "$folder/words" >"$folder/wrong" && [ ! -s "$folder/wrong" ] || fail "$(head -n 3 "$folder/wrong")"
 
 # ---- names: a word, or each of those that `::` joins, is a crate, or a name that the crates have
 
@@ -209,8 +206,7 @@ awk -v list="$folder/there" '
     BEGIN { while ((getline line < list) > 0) there[line] = 1 }
     $2 ~ /^X_|NAME$|^(transf_c_program_preservation|compile_correct|stage1|EOF)$/ { next }
     !($2 in there) { print $1 " no file of the crates has " $2 }
-' "$folder/asked" >"$folder/wrong"
-[ ! -s "$folder/wrong" ] || fail "$(head -n 3 "$folder/wrong")"
+' "$folder/asked" >"$folder/wrong" && [ ! -s "$folder/wrong" ] || fail "$(head -n 3 "$folder/wrong")"
 
 # ---- arrows of the tower of laws: the lower crate has the law, and the upper one cites it
 
@@ -271,7 +267,7 @@ find crates -path '*/out' -prune -o \( -path '*/src/*.rt' -o -path '*/specs/*.an
     }
     /^ *(abbrev|unfoldable|pub) / {
         n = split($0, words, / +/)
-        for (i = 1; i <= n && i < 6; i++) if (words[i] !~ /^(abbrev|unfoldable|pub|record|data|)$/) { spec[crate, words[i]] = 1; break }
+        for (i = 1; i <= n && i < 6; i++) if (words[i] != "" && words[i] !~ /^(abbrev|unfoldable|pub|record|data)$/) { spec[crate, words[i]] = 1; break }
     }
     END {
         for (i = 1; i <= arrow_count; i++) {
@@ -286,8 +282,7 @@ find crates -path '*/out' -prune -o \( -path '*/src/*.rt' -o -path '*/specs/*.an
             if (!found) { where = line; sub(/^[^ ]* [^ ]* [^ ]* */, "", where); print "docs/PROMISES.md:" part[1] ": no " part[3] " in " (where == "" ? "any crate of its row" : where) }
         }
     }
-' >"$folder/wrong"
-[ ! -s "$folder/wrong" ] || fail "$(head -n 3 "$folder/wrong")"
+' >"$folder/wrong" && [ ! -s "$folder/wrong" ] || fail "$(head -n 3 "$folder/wrong")"
 
 # ---- what nothing uses
 

@@ -118,17 +118,18 @@ if [ "${1:-}" = --write ]; then
     exit 0
 fi
 awk -v begin="$begin" -v end="$end" '$0 == begin { within = 1; next } $0 == end { within = 0 } within' $page | sed '1d;$d' >"$folder/written"
-awk -F ' [|] ' '
+awk -F ' [|] ' -v begun="$(grep -nxF "$begin" $page | head -n 1 | cut -d : -f 1)" '
+    function stop(line, text) { print begun + line ": " text; wrong = 1; exit 1 }
     function off(a, b) { a += 0; b += 0; return (a > b ? a - b : b - a) > 50 && (a > b ? a - b : b - a) * 10 > b }
-    FNR == NR { if (/^\| `/) { cut = $0; sub(/ \| [0-9]+ \| [0-9]+ \| [0-9]+ \|$/, "", cut); row[$1] = cut; n = split($0, cells, / \| /); for (i = 0; i < 3; i++) count[$1, i] = cells[n - i]; left++ } next }
+    FNR == NR { if (/^\| `/) { cut = $0; sub(/ \| [0-9]+ \| [0-9]+ \| [0-9]+ \|$/, "", cut); row[$1] = cut; line_of[$1] = FNR + 1; n = split($0, cells, / \| /); for (i = 0; i < 3; i++) count[$1, i] = cells[n - i] } next }
     /^\| `/ {
         cut = $0; sub(/ \| [0-9]+ \| [0-9]+ \| [0-9]+ \|$/, "", cut)
-        if (!($1 in row)) { print "no row of " $1; exit 1 }
-        if (row[$1] != cut) { print "the row of " $1 " is stale: " cut; exit 1 }
+        if (!($1 in row)) stop(0, "there is no row of " substr($1, 3))
+        if (row[$1] != cut) stop(line_of[$1], "the row of " substr($1, 3) " is stale: " cut)
         n = split($0, cells, / \| /)
-        for (i = 0; i < 3; i++) if (off(count[$1, i], cells[n - i])) { print "the counts of " $1 " are stale"; exit 1 }
-        left--
+        for (i = 0; i < 3; i++) if (off(count[$1, i], cells[n - i])) stop(line_of[$1], "the counts of " substr($1, 3) " are stale")
+        delete line_of[$1]
     }
-    END { if (left > 0) { print "there are rows of crates that are gone"; exit 1 } }
-' "$folder/written" "$folder/tables" >"$folder/wrong" || fail "$page: $(cat "$folder/wrong") (map.sh --write)"
+    END { if (!wrong) for (name in line_of) stop(line_of[name], "there is no crate " substr(name, 3)) }
+' "$folder/written" "$folder/tables" >"$folder/wrong" || fail "$page:$(cat "$folder/wrong") (map.sh --write)"
 echo "$script: the tables of $page are those of $(wc -l <"$folder/names") crates"
