@@ -14,7 +14,7 @@ cat >"$folder/answer.c" <<'END'
 int main(void) { return 42; }
 END
 cat >"$folder/echo.c" <<'END'
-int main(void) { int c; while ((c = getchar()) != -1) putchar(c); return 7; }
+int main(void) { int c; while ((c = getchar()) != -1) putchar(c); return 0; }
 END
 printf 'a\000b\377' >"$folder/bytes"
 "$program" build "$folder/answer.c" "$folder/answer.elf" --recipe none || fail 'answer.c is not built'
@@ -60,7 +60,7 @@ wrote() {
 : >"$folder/nothing"
 echo 'accepted 1' >"$folder/accepted"
 echo 'refused NoMain 41 line 1' >"$folder/refused"
-echo 'exit 7' >"$folder/exit"
+echo 'exit 0' >"$folder/exit"
 sets=0
 for closed in '' 0 1 2 01 02 12 012; do
     rm -f "$folder/image.elf" "$folder/text.c"

@@ -8,36 +8,52 @@ script=tools/map.sh
 . tools/lib.sh
 page=docs/ARCHITECTURE.md
 
-# crate, sentence, `Always:` sentence, and counts, separated by tabs; a wrong head ends the script with its file and line.
-sed -n 's/^\([a-z][a-z0-9_]*\).*/\1/p' crates.txt >"$folder/names"
+# The files of the crates, each crate's root first.
+sed -n 's/^\([a-z][a-z0-9_]*\).*:.*/\1/p' crates.txt >"$folder/names"
 while read -r crate; do
-    [ -d "crates/$crate" ] || fail "$crate has a line in crates.txt and no folder"
+    [ -d "crates/$crate" ] || fail "crates.txt:$(grep -n "^$crate[: ]" crates.txt | cut -d : -f 1): $crate has no folder"
     root=crates/$crate/src/lib.rt
     [ -e "$root" ] || root=crates/$crate/src/main.rt
     [ -e "$root" ] || fail "crates/$crate has no root file"
-    awk -v root="$root" '
-        !/^\/\/!/ { exit }
-        { sub(/^\/\/! ?/, ""); text = text (text == "" ? "" : " ") $0; if (index($0, "|")) { print root ":" NR ": a head has no |"; wrong = 1; exit } }
-        function sentence(s,  at) {
-            at = match(s, /\.( |$)/)
-            return at ? substr(s, 1, at) : ""
+    echo "$root" >&3
+    find "crates/$crate/src" "crates/$crate/specs" "crates/$crate/proofs" -type f \( -name '*.rt' -o -name '*.antt' \) ! -path "$root" 2>/dev/null >&3
+done <"$folder/names" 3>"$folder/files"
+
+# Crate, sentence, `Always:` sentence, and counts, separated by tabs. Each file is read once; a wrong head ends the script with its
+# file and line.
+awk '
+    function stop(text) { print text; wrong = 1; exit 1 }
+    function sentence(s,  at) {
+        at = match(s, /\.( |$)/)
+        return at ? substr(s, 1, at) : ""
+    }
+    {
+        path = $0; split(path, at, "/"); crate = at[2]; part = at[3]
+        is_root = !(crate in first); within = is_root; text = ""; number = 0
+        while ((getline line < path) > 0) {
+            number++
+            if (line ~ /[^ \t\r]/) lines[crate, part]++
+            if (!within || line !~ /^\/\/!/) { within = 0; continue }
+            sub(/^\/\/! ?/, "", line)
+            if (index(line, "|")) stop(path ":" number ": a head has no |")
+            text = text (text == "" ? "" : " ") line
         }
-        END {
-            if (wrong) exit 1
-            first = sentence(text)
-            if (first == "") { print root ":1: the head has no sentence with a full stop"; exit 1 }
-            if (length(first) > 110) { print root ":1: the first sentence is longer than 110 characters"; exit 1 }
-            always = ""
-            at = index(text, "Always: ")
-            if (at) { always = sentence(substr(text, at + 8)); if (always == "") { print root ":1: the sentence after Always: has no full stop"; exit 1 } }
-            print first "\t" always
+        close(path)
+        if (!is_root) next
+        first[crate] = sentence(text)
+        if (first[crate] == "") stop(path ":1: the head has no sentence with a full stop")
+        begun = index(text, "Always: ")
+        if (begun) { always[crate] = sentence(substr(text, begun + 8)); if (always[crate] == "") stop(path ":1: the sentence after Always: has no full stop") }
+        order[++count] = crate
+    }
+    END {
+        if (wrong) exit 1
+        for (i = 1; i <= count; i++) {
+            crate = order[i]
+            print crate "\t" first[crate] "\t" always[crate] "\t" lines[crate, "src"] + 0 "\t" lines[crate, "specs"] + 0 "\t" lines[crate, "proofs"] + 0
         }
-    ' "$root" >"$folder/head" || fail "$(cat "$folder/head")"
-    for part in src specs proofs; do
-        find "crates/$crate/$part" -type f \( -name '*.rt' -o -name '*.antt' \) -exec cat {} + 2>/dev/null | grep -c '[^[:space:]]'
-    done >"$folder/counts"
-    printf '%s\t%s\t%s\n' "$crate" "$(cat "$folder/head")" "$(tr '\n' '\t' <"$folder/counts")" >&3
-done <"$folder/names" 3>"$folder/facts" || exit 1
+    }
+' "$folder/files" >"$folder/facts" || fail "$(cat "$folder/facts")"
 
 # The tables: a heading and a table for each comment line of crates.txt that begins a layer (`# Name`), a row for each crate.
 awk -F '\t' '
@@ -87,7 +103,12 @@ awk -F '\t' '
 
 begin='<!-- made by tools/map.sh --write -->'
 end='<!-- end -->'
-grep -qxF "$begin" $page && grep -qxF "$end" $page || fail "$page lacks the marks of the tables"
+awk -v begin="$begin" -v end="$end" '
+    $0 == begin && !at { at = FNR }
+    at && $0 == end { found = 1; exit }
+    END { if (!found) print at ? at ": no line " end " follows" : FNR ": no line is " begin }
+' $page >"$folder/lacks"
+[ ! -s "$folder/lacks" ] || fail "$page:$(cat "$folder/lacks")"
 if [ "${1:-}" = --write ]; then
     awk -v begin="$begin" -v end="$end" -v tables="$folder/tables" '
         $0 == begin { print; print ""; while ((getline line < tables) > 0) print line; print ""; within = 1; next }
@@ -97,17 +118,18 @@ if [ "${1:-}" = --write ]; then
     exit 0
 fi
 awk -v begin="$begin" -v end="$end" '$0 == begin { within = 1; next } $0 == end { within = 0 } within' $page | sed '1d;$d' >"$folder/written"
-awk -F ' [|] ' '
+awk -F ' [|] ' -v begun="$(grep -nxF "$begin" $page | head -n 1 | cut -d : -f 1)" '
+    function stop(line, text) { print begun + line ": " text; wrong = 1; exit 1 }
     function off(a, b) { a += 0; b += 0; return (a > b ? a - b : b - a) > 50 && (a > b ? a - b : b - a) * 10 > b }
-    FNR == NR { if (/^\| `/) { cut = $0; sub(/ \| [0-9]+ \| [0-9]+ \| [0-9]+ \|$/, "", cut); row[$1] = cut; n = split($0, cells, / \| /); for (i = 0; i < 3; i++) count[$1, i] = cells[n - i]; left++ } next }
+    FNR == NR { if (/^\| `/) { cut = $0; sub(/ \| [0-9]+ \| [0-9]+ \| [0-9]+ \|$/, "", cut); row[$1] = cut; line_of[$1] = FNR + 1; n = split($0, cells, / \| /); for (i = 0; i < 3; i++) count[$1, i] = cells[n - i] } next }
     /^\| `/ {
         cut = $0; sub(/ \| [0-9]+ \| [0-9]+ \| [0-9]+ \|$/, "", cut)
-        if (!($1 in row)) { print "no row of " $1; exit 1 }
-        if (row[$1] != cut) { print "the row of " $1 " is stale: " cut; exit 1 }
+        if (!($1 in row)) stop(0, "there is no row of " substr($1, 3))
+        if (row[$1] != cut) stop(line_of[$1], "the row of " substr($1, 3) " is stale: " cut)
         n = split($0, cells, / \| /)
-        for (i = 0; i < 3; i++) if (off(count[$1, i], cells[n - i])) { print "the counts of " $1 " are stale"; exit 1 }
-        left--
+        for (i = 0; i < 3; i++) if (off(count[$1, i], cells[n - i])) stop(line_of[$1], "the counts of " substr($1, 3) " are stale")
+        delete line_of[$1]
     }
-    END { if (left > 0) { print "there are rows of crates that are gone"; exit 1 } }
-' "$folder/written" "$folder/tables" >"$folder/wrong" || fail "$page: $(cat "$folder/wrong") (map.sh --write)"
+    END { if (!wrong) for (name in line_of) stop(line_of[name], "there is no crate " substr(name, 3)) }
+' "$folder/written" "$folder/tables" >"$folder/wrong" || fail "$page:$(cat "$folder/wrong") (map.sh --write)"
 echo "$script: the tables of $page are those of $(wc -l <"$folder/names") crates"

@@ -94,7 +94,7 @@ FNR == 1 {
     split(file, at, "/"); crate = at[2]; base = at[4]; sub(/\.antt$/, "", base)
     crate_of[file] = crate; base_of[file] = base; file_named["Rattle." crate ".specs." base] = file
     if (!(crate in crates)) { crates[crate] = ++crate_count; crate_named[crate_count] = crate }
-    files_of[crate] = files_of[crate] " " file
+    files_of[crate] = files_of[crate] "\n" file
 }
 /^(pub )?use / { import($0); next }
 /^ *$/ { flush(); next }
@@ -128,7 +128,11 @@ function add(unit) {
     reached[query, unit] = 1
     waiting[++last] = unit
 }
-function note_kit(name) { if (!((query, "kit", name) in reached)) { reached[query, "kit", name] = 1; kits[query]++ } }
+function note_kit(name) {
+    if ((query, "kit", name) in reached) return
+    reached[query, "kit", name] = 1
+    kits[query]++; kit_names[query] = kit_names[query] "\n" name
+}
 # `declared.module.Type`, whose constructors and views stand below it
 function note_type(path, name,  crate, type, n) {
     n = split(path, part, /\./)
@@ -217,7 +221,7 @@ function listed(with_files,  out, c, best, done, f, files, n, i, b, inner, many)
         out = out (out == "" ? "" : ", ") "`" best "` " thousands(by_crate[best])
         if (!with_files) continue
         inner = ""; many = 0
-        n = split(files_of[best], files, / /)
+        n = split(files_of[best], files, /\n/)
         for (i = 1; i <= n; i++) listing[i] = files[i]
         while (1) {
             b = 0
@@ -257,13 +261,13 @@ function types_tally(label,  n, names, i) {
     for (i = 1; i <= n; i++) if (names[i] != "") { type_count++; type_total += type_lines(names[i]) }
 }
 
-function print_reached(label,  i, c, files, n, j, u, out) {
+function print_reached(label,  i, c, files, n, j, u, out, names) {
     tally(label, "", "", "")
     for (i = 1; i <= crate_count; i++) {
         c = crate_named[i]
         if (!(c in by_crate)) continue
         print c " " by_crate[c]
-        n = split(files_of[c], files, / /)
+        n = split(files_of[c], files, /\n/)
         for (j = 1; j <= n; j++) {
             if (!(files[j] in by_file)) continue
             out = ""
@@ -275,6 +279,8 @@ function print_reached(label,  i, c, files, n, j, u, out) {
     print touched " crates, " total " lines; beside them " type_count " Rust types of " type_total " lines and " kits[label] + 0 " names of the kit"
     n = split(types[label], files, /\n/)
     for (i = 1; i <= n; i++) if (files[i] != "") { split(files[i], part, / /); print "  Rust: " part[1] " " part[3] " " type_lines(files[i]) }
+    n = split(kit_names[label], names, /\n/)
+    for (i = 1; i <= n; i++) if (names[i] != "") print "  kit: " names[i]
 }
 function row(step, question, with_files) { print "| " step " | " question " | " listed(with_files) " | " thousands(total) " |" }
 function sum_row(name, what) { print "| | **`" name "`**" what " | " touched " crates | **" thousands(total) "** |" }
@@ -321,15 +327,24 @@ END {
 }
 AWK
 
-reach() {
+# In a shell of its own: names of files are divided by line ends alone.
+reach() (
+    set -f
+    IFS='
+'
     LC_ALL=C awk -v asked="$1" -v roots_said="${2:-}" -f "$folder/reach.awk" $(cat "$folder/files")
-}
+)
 case ${1:-} in
     '' | --write) ;;
     *) reach "$*" yes; exit $? ;;
 esac
 reach '' >"$folder/table" || fail "$(tail -n 1 "$folder/table")"
-awk -v begin="$begin" -v end="$end" '$0 == begin { within = 1 } within && $0 == end { found = 1 } END { exit !found }' $page || fail "$page lacks the marks of the table"
+awk -v begin="$begin" -v end="$end" '
+    $0 == begin && !at { at = FNR }
+    at && $0 == end { found = 1; exit }
+    END { if (!found) print at ? at ": no line " end " follows" : FNR ": no line is " begin }
+' $page >"$folder/lacks"
+[ ! -s "$folder/lacks" ] || fail "$page:$(cat "$folder/lacks")"
 if [ "${1:-}" = --write ]; then
     awk -v begin="$begin" -v end="$end" -v table="$folder/table" '
         $0 == begin { print; print ""; while ((getline line < table) > 0) print line; print ""; within = 1; next }

@@ -8,15 +8,27 @@ script=tools/session.sh
 . tools/lib.sh
 compiler
 
-top=$(pwd)
 mkdir "$folder/session" && cp -R examples "$folder/session/" && printf '#!/bin/sh\nexec "%s" "$@"\n' "$(cd "$(dirname "$program")" && pwd)/$(basename "$program")" >"$folder/session/rvcc"
 chmod +x "$folder/session/rvcc"
-sed -n '/^## A session$/,/^## /p' README.md | sed -n '/^```$/,/^```$/p' | grep -v '^```$' >"$folder/text"
-[ -s "$folder/text" ] || fail 'README.md has no session'
 
-# Each command stands in a file of its number, what it should write in another.
-awk -v folder="$folder" '/^\$ / { number++; print substr($0, 3) > (folder "/command." number); printf "" > (folder "/wanted." number); next }
-    { print > (folder "/wanted." number) } END { print number }' "$folder/text" >"$folder/count"
+# Each command stands in a file of its number, its line in another, and what it should write in a third.
+awk -v folder="$folder" '
+    /^## / { within = ($0 == "## A session"); fenced = 0; next }
+    !within { next }
+    /^```/ { fenced = !fenced; next }
+    !fenced { next }
+    /^\$ / {
+        number++
+        print substr($0, 3) > (folder "/command." number)
+        print FNR > (folder "/line." number)
+        printf "" > (folder "/wanted." number)
+        next
+    }
+    !number { print "README.md:" FNR ": the session begins with no command"; wrong = 1; exit 1 }
+    { print > (folder "/wanted." number) }
+    END { if (!wrong) print number + 0 }
+' README.md >"$folder/count" || fail "$(cat "$folder/count")"
+[ "$(cat "$folder/count")" -gt 0 ] || fail 'README.md has no session'
 number=1
 skipped=
 while [ $number -le "$(cat "$folder/count")" ]; do
@@ -27,7 +39,7 @@ while [ $number -le "$(cat "$folder/count")" ]; do
     (cd "$folder/session" && sh -c "$command") >"$folder/given" 2>&1
     status=$?
     [ $status -eq 0 ] || echo "[$status]" >>"$folder/given"
-    cmp -s "$folder/given" "$folder/wanted.$number" || { diff "$folder/wanted.$number" "$folder/given"; cd "$top" && fail "README.md's session differs at: $command"; }
+    cmp -s "$folder/given" "$folder/wanted.$number" || { diff "$folder/wanted.$number" "$folder/given"; fail "README.md:$(cat "$folder/line.$number"): the session differs at: $command"; }
     number=$((number + 1))
 done
 [ -z "$skipped" ] || echo "$script: commands that need these are skipped:$skipped"

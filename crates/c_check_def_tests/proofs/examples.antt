@@ -1,3 +1,4 @@
+-- Worked rows, from source to refusal.
 mod Source
 mod NameRows
 mod ExpressionRows

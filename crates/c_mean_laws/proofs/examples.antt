@@ -1,2 +1,3 @@
+-- Worked rows at both sides of each border, and programs.
 mod Borders
 mod Sources

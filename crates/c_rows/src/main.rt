@@ -1,6 +1,5 @@
 //! A program that says what parts of the compiler answer on the rows of a table. The rows are the
-//! lines of `stdin`, and what is said the lines of `stdout`. It stands on the crates of these
-//! parts, and promises nothing of its own.
+//! lines of `stdin`, and what is said the lines of `stdout`. It promises nothing of its own.
 //!
 //! A line `part NAME` is said again, and begins the rows of a part: `lex` (`lexing`), `type`
 //! (`layouts`), `parse` (`parsing`), `scope` (`scopes`), `operator` (`operators`), `check`

@@ -1,6 +1,6 @@
 //! A program that tries the rows of a table, each on lambdas, and prints those that fail. It makes
-//! changes, rules at their limits, sweeps, recipes, linear code and places, stands on their
-//! crates, and promises nothing of its own.
+//! changes, rules at their limits, sweeps, recipes, linear code and places, and promises nothing of
+//! its own.
 //!
 //! A row begins with a line `row NAME`. A line that begins with `=` and a blank is wanted of it. A
 //! line `function ..` begins the text of a lambda, the lines of which that follow begin with a

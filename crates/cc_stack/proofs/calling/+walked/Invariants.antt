@@ -1,3 +1,4 @@
+-- The greatest depth so far, with the calls that are left, is the greatest of all.
 use Rattle.std.proofs.Common.{◌≡◌, drop}
 use Rattle.g_graph.specs.Plain.{nodes_of, regions_of}
 use Rattle.g_pass_order.specs.Calls.{region_calls, node_calls, nodes_calls, regions_calls}

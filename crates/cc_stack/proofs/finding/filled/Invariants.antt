@@ -1,3 +1,4 @@
+-- The depths of the functions so far are found.
 use Rattle.cc_stack.specs.Turns.{IsFilled}
 use Rattle.cc_stack.proofs.finding.filled.Given as goal
 

@@ -1,10 +1,10 @@
+-- It is known of the functions so far whether they have changed.
 use Rattle.std.proofs.Common.{◌≡◌, ◌<◌, ℕ, true, false, length, slice_index_or}
 use Rattle.std.specs.Prelude.{◌↔◌}
 use Rattle.call_order.specs.Units.{call_lists}
 use Rattle.g_pass_stale.specs.Stale.{IsUnchanged}
 use Rattle.g_pass_stale.proofs.changes.changes.Given as goal
 
--- it is known of the functions so far
 abbrev pub invariant-loop-function : goal.invariant-loop-function
 invariant-loop-function l =
     (length l.changed.items ≡ l.function)

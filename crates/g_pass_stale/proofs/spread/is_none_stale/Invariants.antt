@@ -1,3 +1,4 @@
+-- None of the functions so far is stale.
 use Rattle.std.proofs.Common.{◌≡◌, ◌<◌, ℕ, true, false, slice_index, slice_index_or}
 use Rattle.g_pass_stale.proofs.spread.is_none_stale.Given as goal
 

@@ -1,9 +1,9 @@
+-- It is known of the functions of the ranks so far whether they are stale.
 use Rattle.std.proofs.Common.{◌≡◌, ◌<◌, ℕ, length, slice_index}
 use Rattle.call_order.specs.Units.{call_lists}
 use Rattle.g_pass_stale.specs.Ranks.{IsSettled}
 use Rattle.g_pass_stale.proofs.spread.spread.Given as goal
 
--- it is known of the functions of the ranks so far
 abbrev pub invariant-loop-functions : goal.invariant-loop-functions
 invariant-loop-functions l =
     (length l.stale.items ≡ length l.deps)

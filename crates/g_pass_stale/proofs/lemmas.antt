@@ -1,0 +1,2 @@
+-- Lemmas that crates above may cite.
+pub mod Unstale
