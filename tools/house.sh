@@ -153,6 +153,7 @@ sed 's/.* //' "$folder/asked" | LC_ALL=C sort -u >"$folder/names"
 find crates -path '*/out' -prune -o \( -name '*.rt' -o -name '*.antt' -o -name '*.edit' \) -print | tr '\n' '\0' \
     | LC_ALL=C xargs -0 grep -howFf "$folder/names" >"$folder/there.all"
 sed -n 's,.*/\([a-z_0-9]*\)[.]edit$,\1,p' "$folder/files" >>"$folder/there.all"
+sed -n 's/^row \([a-z_0-9]*\).*/\1/p' crates/*/stdin >>"$folder/there.all"
 { cat docs/prices.tsv tools/* rows/*.py; } | LC_ALL=C grep -owFf "$folder/names" >>"$folder/there.all"
 LC_ALL=C sort -u "$folder/there.all" >"$folder/there"
 awk -v list="$folder/there" '
