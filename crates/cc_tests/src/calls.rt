@@ -1,4 +1,4 @@
-//! The calls of a row.
+//! The calls of a row, but for those of `commands` and `texts`.
 //!
 //! `file NAME TEXT` is a file that commands are given from then on. `input NAME` is the input of
 //! the commands that follow: what this file holds. `fail FILES INPUT OUTPUT REPORT` says which of
@@ -6,14 +6,9 @@
 //! them, counted from 0; another word is an empty list. `whole NAME` says with which file OUT is
 //! compared. `#` begins a remark.
 
-use crate::commands::{command, make, meet, passes};
 use crate::outside::outside;
 use crate::row::{Row, bytes_of, split};
-use crate::texts::{say_texts, tell_row};
-use cc_watch::Watcher;
 use no_memory::NoMemory;
-use std::sync::Wait;
-use std::thread::Threads;
 
 fn put_file(row: &mut Row, words: &str) -> Result<(), NoMemory> {
     let (name, text) = split(words);
@@ -31,15 +26,8 @@ fn set(text: &mut String, words: &str) -> Result<(), NoMemory> {
     Ok(text.push_str(words)?)
 }
 
-/// Makes a call, a word and what is behind it, for these watchers.
-pub fn call<H: Threads + Wait + Sync>(
-    host: &HostRuntime,
-    workers: &H,
-    row: &mut Row,
-    line: &str,
-    watchers: &mut Vec<Box<dyn Watcher>>,
-) -> Result<(), NoMemory> {
-    let (word, rest) = split(line);
+/// Makes a call, a word and what is behind it.
+pub fn call(host: &HostRuntime, row: &mut Row, word: &str, rest: &str) -> Result<(), NoMemory> {
     match word {
         "" | "#" => Ok(()),
         "=" => row.want(rest),
@@ -47,12 +35,6 @@ pub fn call<H: Threads + Wait + Sync>(
         "input" => set_input(row, rest),
         "fail" => set(&mut row.failing, rest),
         "whole" => set(&mut row.whole, rest),
-        "tell" => tell_row(row, rest, watchers),
-        "texts" => say_texts(row, rest, watchers),
-        "command" => command(workers, row, rest, watchers),
-        "make" => make(workers, row, rest, watchers),
-        "meet" => meet(workers, row, rest, watchers),
-        "passes" => passes(workers, row, rest, watchers),
         _ => outside(host, row, word, rest),
     }
 }

@@ -5,26 +5,37 @@
 //! it is none, and `none` where it is not there. `make NAME WORDS` says the same, and OUT is the
 //! file NAME from then on, with which it is compared. `meet TURNS WORDS` says the status, and
 //! whether the makings of the jobs 1 and 2 met at a gate, which holds job 1 for so many turns at
-//! most. `passes WORDS` says the status, and how often a gate was passed.
+//! most. `passes WORDS` says the status, and how often the gate was passed.
 
 use crate::row::{Named, Row, listed, say_bytes, split};
-use board_work::{CountGate, Gate, MeetGate, OpenGate};
+use board_work::{CountGate, Gate, MeetGate};
 use cc_io::{MemFiles, MemSink, MemSource};
-use cc_top::top;
-use cc_watch::Watcher;
 use no_memory::NoMemory;
 use std::alloc::Global;
-use std::sync::Wait;
-use std::thread::Threads;
 
-// What a command left: its status, OUT if it is there, and what it wrote on the output and on the
-// report.
+/// A gate where two workers may meet, and that counts its passes.
 #[derive(Drop)]
-struct Left {
-    status: u8,
-    out: Option<Vec<u8>>,
-    output: Vec<u8>,
-    report: Vec<u8>,
+pub struct Turnstile {
+    meeting: MeetGate,
+    counted: CountGate,
+}
+
+impl Gate for Turnstile {
+    fn pass(&self, job: u32) {
+        self.meeting.pass(job);
+        self.counted.pass(job);
+    }
+}
+
+/// What the top call is handed.
+#[derive(Drop)]
+pub struct Handed {
+    pub arguments: Vec<String>,
+    pub files: MemFiles,
+    pub input: MemSource,
+    pub output: MemSink,
+    pub report: MemSink,
+    pub gate: Turnstile,
 }
 
 fn arguments_of(alloc: Global, words: &str) -> Result<Vec<String>, NoMemory> {
@@ -52,36 +63,8 @@ fn files_of(alloc: Global, held: &[Named], failing: Vec<u64>) -> Result<MemFiles
     Ok(files)
 }
 
-fn left_of(
-    alloc: Global,
-    status: u8,
-    files: &MemFiles,
-    output: &MemSink,
-    report: &MemSink,
-) -> Result<Left, NoMemory> {
-    let out = match files.get("out") {
-        Some(bytes) => Some(bytes.to_vec(alloc)?),
-        None => None,
-    };
-    let output = output.bytes().to_vec(alloc)?;
-    let report = report.bytes().to_vec(alloc)?;
-    Ok(Left {
-        status,
-        out,
-        output,
-        report,
-    })
-}
-
-// Carries out the command of these words through a gate.
-fn called<H: Threads + Wait + Sync, G: Gate>(
-    workers: &H,
-    row: &Row,
-    words: &str,
-    gate: &G,
-    watchers: &mut Vec<Box<dyn Watcher>>,
-) -> Result<Left, NoMemory> {
-    // Nothing wide is held where memory may run out.
+// What the command of these words is handed, job 1 held for so many turns.
+fn hand_in(row: &Row, words: &str, turns: u64) -> Result<Handed, NoMemory> {
     let alloc = row.alloc;
     let arguments = arguments_of(alloc, words)?;
     let input = row.input.to_vec(alloc)?;
@@ -92,27 +75,28 @@ fn called<H: Threads + Wait + Sync, G: Gate>(
     let of_input = listed(alloc, of_input)?;
     let of_output = listed(alloc, of_output)?;
     let of_report = listed(alloc, of_report)?;
-    let mut files = files_of(alloc, &row.files, of_files)?;
-    let mut input = MemSource::new(input, of_input);
-    let mut output = MemSink::new(alloc, of_output);
-    let mut report = MemSink::new(alloc, of_report);
-    let status = top(
-        workers,
-        alloc,
-        &arguments,
-        &mut files,
-        &mut input,
-        &mut output,
-        &mut report,
-        gate,
-        watchers,
-    );
-    let left = left_of(alloc, status, &files, &output, &report);
-    drop(files);
-    drop(input);
-    drop(output);
-    drop(report);
-    left
+    let files = files_of(alloc, &row.files, of_files)?;
+    Ok(Handed {
+        arguments,
+        files,
+        input: MemSource::new(input, of_input),
+        output: MemSink::new(alloc, of_output),
+        report: MemSink::new(alloc, of_report),
+        gate: Turnstile {
+            meeting: MeetGate::new(1, 2, turns),
+            counted: CountGate::new(),
+        },
+    })
+}
+
+/// What the command of a line is handed, which is this word and what stands behind it.
+pub fn handed_of(row: &Row, word: &str, words: &str) -> Result<Handed, NoMemory> {
+    let (first, rest) = split(words);
+    match word {
+        "make" => hand_in(row, rest, 0),
+        "meet" => hand_in(row, rest, first.parse::<u64>().unwrap_or(0)),
+        _ => hand_in(row, words, 0),
+    }
 }
 
 fn say_out(row: &mut Row, out: &[u8]) -> Result<(), NoMemory> {
@@ -121,97 +105,48 @@ fn say_out(row: &mut Row, out: &[u8]) -> Result<(), NoMemory> {
     Ok(write!(row.said, " {mark}{}\n", out.len())?)
 }
 
-fn say_left(row: &mut Row, left: &Left) -> Result<(), NoMemory> {
-    write!(row.said, "{} ", left.status)?;
-    say_bytes(&mut row.said, &left.output)?;
+fn say_left(row: &mut Row, status: u8, handed: &Handed) -> Result<(), NoMemory> {
+    write!(row.said, "{status} ")?;
+    say_bytes(&mut row.said, handed.output.bytes())?;
     row.said.push(' ')?;
-    say_bytes(&mut row.said, &left.report)?;
-    match &left.out {
+    say_bytes(&mut row.said, handed.report.bytes())?;
+    match handed.files.get("out") {
         Some(out) => say_out(row, out),
         None => row.say(" none"),
     }
 }
 
-/// Carries out a command, and says what it left.
-pub fn command<H: Threads + Wait + Sync>(
-    workers: &H,
-    row: &mut Row,
-    words: &str,
-    watchers: &mut Vec<Box<dyn Watcher>>,
-) -> Result<(), NoMemory> {
-    let left = called(workers, row, words, &OpenGate, watchers)?;
-    let said = say_left(row, &left);
-    drop(left);
-    said
-}
-
 // Puts OUT as a file of this name, with which it is compared from then on.
-fn keep(row: &mut Row, name: &str, left: &Left) -> Result<(), NoMemory> {
-    let out: &[u8] = match &left.out {
-        Some(out) => out.as_slice(),
-        None => b"".as_slice(),
-    };
+fn keep(row: &mut Row, name: &str, handed: &Handed) -> Result<(), NoMemory> {
+    let out = handed.files.get("out").unwrap_or(b"");
     let bytes = out.to_vec(row.alloc)?;
     row.put_file(name, bytes)?;
     row.whole.clear();
     Ok(row.whole.push_str(name)?)
 }
 
-fn keep_and_say(row: &mut Row, name: &str, left: &Left) -> Result<(), NoMemory> {
-    keep(row, name, left)?;
-    say_left(row, left)
-}
-
-/// Carries out a command, puts its OUT as a file, and says what it left.
-pub fn make<H: Threads + Wait + Sync>(
-    workers: &H,
+/// Says what the command of a line left, which ended with this status.
+pub fn say_end(
     row: &mut Row,
+    word: &str,
     words: &str,
-    watchers: &mut Vec<Box<dyn Watcher>>,
+    status: u8,
+    handed: &Handed,
 ) -> Result<(), NoMemory> {
-    let (name, words) = split(words);
-    let left = called(workers, row, words, &OpenGate, watchers)?;
-    let said = keep_and_say(row, name, &left);
-    drop(left);
-    said
-}
-
-// The status of a command through a gate.
-fn status_through<H: Threads + Wait + Sync, G: Gate>(
-    workers: &H,
-    row: &Row,
-    words: &str,
-    gate: &G,
-    watchers: &mut Vec<Box<dyn Watcher>>,
-) -> Result<u8, NoMemory> {
-    let left = called(workers, row, words, gate, watchers)?;
-    let status = left.status;
-    drop(left);
-    Ok(status)
-}
-
-/// Carries out a command, and says whether two workers met.
-pub fn meet<H: Threads + Wait + Sync>(
-    workers: &H,
-    row: &mut Row,
-    words: &str,
-    watchers: &mut Vec<Box<dyn Watcher>>,
-) -> Result<(), NoMemory> {
-    let (turns, words) = split(words);
-    let gate = MeetGate::new(1, 2, turns.parse::<u64>().unwrap_or(0));
-    let status = status_through(workers, row, words, &gate, watchers)?;
-    let met = if gate.met() { "met" } else { "not met" };
-    Ok(write!(row.said, "{status} {met}\n")?)
-}
-
-/// Carries out a command, and says how many jobs passed the gate.
-pub fn passes<H: Threads + Wait + Sync>(
-    workers: &H,
-    row: &mut Row,
-    words: &str,
-    watchers: &mut Vec<Box<dyn Watcher>>,
-) -> Result<(), NoMemory> {
-    let gate = CountGate::new();
-    let status = status_through(workers, row, words, &gate, watchers)?;
-    Ok(write!(row.said, "{status} {}\n", gate.passes())?)
+    match word {
+        "make" => {
+            keep(row, split(words).0, handed)?;
+            say_left(row, status, handed)
+        }
+        "meet" => {
+            let met = handed.gate.meeting.met();
+            let met = if met { "met" } else { "not met" };
+            Ok(write!(row.said, "{status} {met}\n")?)
+        }
+        "passes" => {
+            let passes = handed.gate.counted.passes();
+            Ok(write!(row.said, "{status} {passes}\n")?)
+        }
+        _ => say_left(row, status, handed),
+    }
 }

@@ -4,8 +4,9 @@
 //! that fail, and counts them. No crate stands on it, and it promises nothing of its own.
 //!
 //! A row begins with a line `row NAME`. A line that begins with `=` and a blank is wanted of it.
-//! Each other line is a call (`calls`). A row fails where what its calls say is not what is wanted
-//! of it. In a text `%` and two hexadecimal digits are a byte.
+//! Each other line is a call (`try_row`, `commands`, `texts`, `outside`, `calls`). A row fails
+//! where what its calls say is not what is wanted of it. In a text `%` and two hexadecimal digits
+//! are a byte.
 #![tactic(auto)]
 
 mod calls;
@@ -16,8 +17,11 @@ mod texts;
 mod watching;
 
 use crate::calls::call;
-use crate::row::Row;
+use crate::commands::{handed_of, say_end};
+use crate::row::{Row, split};
+use crate::texts::{say_texts, tell_row};
 use crate::watching::watching_of;
+use cc_top::top;
 use cc_watch::{Counter, LogKeeper, Watcher};
 use no_memory::NoMemory;
 use std::io;
@@ -33,8 +37,8 @@ struct Counts {
 }
 
 // Makes the calls of a row. A line `watch` and the name of a watcher gives the commands that follow
-// one more, and `watch nobody` leaves them without. They are made here, since no function may hand
-// out what it makes of a trait.
+// one more, and `watch nobody` leaves them without. They are made, and handed to the top call, here
+// alone, since no function may hand out what it makes of a trait.
 fn try_row<H: Threads + Wait + Sync>(
     host: &HostRuntime,
     workers: &H,
@@ -44,16 +48,37 @@ fn try_row<H: Threads + Wait + Sync>(
     let alloc = row.alloc;
     let mut watchers: Vec<Box<dyn Watcher>> = Vec::new(alloc);
     for line in lines {
-        let line = line.as_str();
-        match line.strip_prefix("watch ").unwrap_or("") {
-            "" => call(host, workers, row, line, &mut watchers)?,
-            "nobody" => watchers.clear(),
-            "count" => watchers.push(Box::new(alloc, Counter::new())?)?,
-            "log" => watchers.push(Box::new(alloc, LogKeeper::new(alloc))?)?,
-            words => {
-                let watching = watching_of(alloc, words)?;
-                watchers.push(Box::new(alloc, watching)?)?;
+        let (word, words) = split(line.as_str());
+        match word {
+            "watch" => match words {
+                "nobody" => watchers.clear(),
+                "count" => watchers.push(Box::new(alloc, Counter::new())?)?,
+                "log" => watchers.push(Box::new(alloc, LogKeeper::new(alloc))?)?,
+                _ => {
+                    let watching = watching_of(alloc, words)?;
+                    watchers.push(Box::new(alloc, watching)?)?;
+                }
+            },
+            "tell" => tell_row(row, words, &mut watchers)?,
+            "texts" => say_texts(row, words, &watchers)?,
+            "command" | "make" | "meet" | "passes" => {
+                let mut handed = handed_of(row, word, words)?;
+                let status = top(
+                    workers,
+                    alloc,
+                    &handed.arguments,
+                    &mut handed.files,
+                    &mut handed.input,
+                    &mut handed.output,
+                    &mut handed.report,
+                    &handed.gate,
+                    &mut watchers,
+                );
+                let said = say_end(row, word, words, status, &handed);
+                drop(handed);
+                said?;
             }
+            _ => call(host, row, word, words)?,
         }
     }
     Ok(())
