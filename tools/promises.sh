@@ -1,12 +1,12 @@
 #!/bin/sh
-# Checks the table of mutants in docs/PROMISES.md: each kept edit and each test that it names is there. And checks docs/mutants.tsv,
+# Checks the table of mutants in docs/PROMISES.md: each kept edit, each test and each row that it names is there. And checks docs/mutants.tsv,
 # which mutants.sh writes: each line is of the crate's files as they are. It tells which crates' mutants have no line.
 set -u
 cd "$(dirname "$0")/.." || exit 1
 script=tools/promises.sh
 . tools/lib.sh
 
-# The last cell of each row: a crate, and after its colon the names of edits and tests, each in backquotes.
+# The last cell of each row: a crate, and after its colon the names of edits, tests and rows, each in backquotes.
 sed -n '/^## Mutants/,/^## /p' docs/PROMISES.md | grep '^| [0-9]' | sed 's/ *|$//; s/.*| //' | tr ';' '\n' >"$folder/cells"
 count=0
 while IFS= read -r cell; do
@@ -15,7 +15,8 @@ while IFS= read -r cell; do
     for name in $(printf '%s\n' "$cell" | sed 's/^[^:]*://' | grep -o '`[a-z0-9_]*`' | tr -d '`'); do
         [ -e "crates/$crate/must-fail/$name.edit" ] || [ -e "crates/$crate/mutants/$name.edit" ] \
             || grep -A 1 -h '#\[test\]' "crates/$crate"/src/*.rt | grep -q "^fn $name(" \
-            || fail "$crate has neither an edit nor a test $name"
+            || grep -Eqs "^row $name(,|\$)" "crates/$crate/stdin" \
+            || fail "$crate has no edit, no test and no row $name"
         count=$((count + 1))
     done
 done <"$folder/cells"
@@ -44,4 +45,4 @@ for folder_of in crates/*/mutants; do
     grep -q "^$crate$tab" docs/mutants.tsv || untried="$untried $crate"
 done
 [ -z "$untried" ] || echo "$script: mutants not tried on these files:$untried"
-echo "$script: $count edits and tests that refuse mutants are there; the mutants of $lines crates were refused"
+echo "$script: $count edits, tests and rows that refuse mutants are there; the mutants of $lines crates were refused"

@@ -1,16 +1,29 @@
-//! Sources, sinks and files that fail at the listed calls, in memory and of the system.
+//! Sources, sinks and files, in memory and of the system, of which the listed calls fail.
+//!
+//! `read CALLS TEXT` reads four times from a source of this text, up to six bytes each time, and
+//! says how many were read and what the buffer then holds; `read - TEXT` does so where no call can
+//! fail, and `read flaky` from a reader of the system (`Flaky`). `write CALLS PIECE ..` writes the
+//! pieces into a sink, and says how much it took of each and then what it holds; `write flaky` and
+//! `write stdout` write into a writer of the system. A piece `-` is empty. `files CALLS` opens,
+//! reads, creates and writes files in memory, and `folder` those of the system. `save CALLS` saves
+//! a file of 10,000 bytes, and `generate CALLS COUNT` generates a program of so many functions;
+//! both say how much is there.
 
+ghost use Rattle.std.specs.Prelude.{◌≡◌, IsSome};
+
+use crate::row::{Row, bytes_of, listed, say_bytes, split};
 use cc_gen::generate;
 use cc_io::{
     DirFiles, Failed, Files, MemFiles, MemSink, MemSource, NoFailSource, Sink, Source, StdSink,
     StdSource, save,
 };
+use no_memory::NoMemory;
+use std::alloc::Global;
 use std::io::{ErrorKind, Read, Write};
-use std::test::Fail;
 use std::{env, fs, io, process};
 
 // A reader and writer of the system that moves a byte a call, fails at the third and takes nothing
-// at the fourth.
+// at the fourth. The bytes are the digits of the calls.
 #[derive(Drop)]
 struct Flaky {
     calls: u8,
@@ -22,7 +35,7 @@ impl Read for Flaky {
         if self.calls == 3 || buf.is_empty() {
             return Err(io::Error::from(ErrorKind::Other));
         }
-        buf[0] = self.calls;
+        buf[0] = self.calls.saturating_add(b'0');
         Ok(1)
     }
 }
@@ -42,148 +55,243 @@ impl Write for Flaky {
     }
 }
 
-#[test]
-fn a_source_in_memory_fails_where_listed(rt: HostRuntime) -> Result<(), Fail> {
-    let alloc = rt.alloc();
-    let text = b"0123456789".to_vec(alloc)?;
-    let mut source = MemSource::new(text, vec![in alloc; 1]?);
-    let mut buf = [0u8; 6];
-    for (want, bytes) in [
-        (Ok(6), b"012345"),
-        (Err(Failed), b"012345"),
-        (Ok(4), b"678945"),
-        (Ok(0), b"678945"),
-    ] {
-        assert_eq!(rt; source.read(&mut buf), want);
-        assert_eq!(rt; buf.as_slice(), bytes.as_slice());
+// What a buffer holds before the first read.
+const UNREAD: [u8; 6] = [b'.'; 6];
+
+fn say_moved(said: &mut String, moved: Result<usize, Failed>) -> Result<(), NoMemory> {
+    match moved {
+        Ok(count) => Ok(write!(said, "{count}")?),
+        Err(Failed) => Ok(said.push_str("failed")?),
+    }
+}
+
+// Says what a read has moved, and what the buffer holds then.
+fn say_read(said: &mut String, moved: Result<usize, Failed>, buf: &[u8]) -> Result<(), NoMemory> {
+    say_moved(said, moved)?;
+    said.push(' ')?;
+    say_bytes(said, buf)?;
+    Ok(said.push('\n')?)
+}
+
+fn say_reads<S: Source>(said: &mut String, source: &mut S) -> Result<(), NoMemory> {
+    let mut buf = UNREAD;
+    for _ in 0..4 {
+        let moved = source.read(&mut buf);
+        say_read(said, moved, &buf)?;
     }
     Ok(())
 }
 
-#[test]
-fn a_source_without_a_list_gives_all(rt: HostRuntime) -> Result<(), Fail> {
-    let mut source = NoFailSource::new(b"0123456789".to_vec(rt.alloc())?);
-    let mut buf = [0u8; 6];
-    for (want, bytes) in [(6, b"012345"), (4, b"678945"), (0, b"678945")] {
-        assert_eq!(rt; source.read(&mut buf), Ok(want));
-        assert_eq!(rt; buf.as_slice(), bytes.as_slice());
+fn reads(row: &mut Row, words: &str) -> Result<(), NoMemory> {
+    let (kind, text) = split(words);
+    let text = bytes_of(row.alloc, text)?;
+    match kind {
+        "flaky" => {
+            let mut source = StdSource::new(Flaky { calls: 0 });
+            say_reads(&mut row.said, &mut source)
+        }
+        "-" => {
+            let mut source = NoFailSource::new(text);
+            say_reads(&mut row.said, &mut source)
+        }
+        _ => {
+            let failing = listed(row.alloc, kind)?;
+            let mut source = MemSource::new(text, failing);
+            say_reads(&mut row.said, &mut source)
+        }
+    }
+}
+
+fn say_writes<S: Sink>(said: &mut String, sink: &mut S, pieces: &str) -> Result<(), NoMemory> {
+    let alloc = *said.allocator();
+    for piece in pieces.split(' ') {
+        let piece = if piece == "-" { "" } else { piece };
+        let bytes = bytes_of(alloc, piece)?;
+        let moved = sink.write(&bytes);
+        say_moved(said, moved)?;
+        said.push('\n')?;
     }
     Ok(())
 }
 
-#[test]
-fn a_sink_in_memory_fails_where_listed(rt: HostRuntime) -> Result<(), Fail> {
-    let alloc = rt.alloc();
-    let mut sink = MemSink::new(alloc, vec![in alloc; 1]?);
-    for (piece, want) in [
-        ("01", Ok(2)),
-        ("23", Err(Failed)),
-        ("", Ok(0)),
-        ("456", Ok(3)),
-    ] {
-        assert_eq!(rt; sink.write(piece.as_bytes()), want);
+fn writes_in_memory(row: &mut Row, failing: Vec<u64>, pieces: &str) -> Result<(), NoMemory> {
+    let mut sink = MemSink::new(row.alloc, failing);
+    say_writes(&mut row.said, &mut sink, pieces)?;
+    say_bytes(&mut row.said, sink.bytes())?;
+    Ok(row.said.push('\n')?)
+}
+
+fn writes(host: &HostRuntime, row: &mut Row, words: &str) -> Result<(), NoMemory> {
+    let (kind, pieces) = split(words);
+    match kind {
+        "flaky" => {
+            let mut sink = StdSink::new(Flaky { calls: 0 });
+            say_writes(&mut row.said, &mut sink, pieces)
+        }
+        "stdout" => {
+            let mut sink = StdSink::new(host.stdout());
+            say_writes(&mut row.said, &mut sink, pieces)
+        }
+        _ => {
+            let failing = listed(row.alloc, kind)?;
+            writes_in_memory(row, failing, pieces)
+        }
     }
-    assert_eq!(rt; sink.bytes(), b"01456".as_slice());
-    Ok(())
 }
 
-#[test]
-fn files_in_memory_fail_where_listed(rt: HostRuntime) -> Result<(), Fail> {
-    let alloc = rt.alloc();
-    let mut files = MemFiles::new(alloc, vec![in alloc; 2, 7]?);
-    files.insert("in", b"0123456789".to_vec(alloc)?)?;
-    files.insert("out", b"old".to_vec(alloc)?)?;
-    assert_eq!(rt; files.open("missing"), Err(Failed));
-    files.open("in")?;
-    let mut buf = [0u8; 6];
-    assert_eq!(rt; files.read(&mut buf), Err(Failed));
-    assert_eq!(rt; files.read(&mut buf), Ok(6));
-    assert_eq!(rt; buf, *b"012345");
-    assert_eq!(rt; files.read(&mut buf), Ok(4));
-    assert_eq!(rt; buf, *b"678945");
-    assert_eq!(rt; files.read(&mut buf), Ok(0));
-    files.create("out")?;
-    assert_eq!(rt; files.write(b"ab"), Err(Failed));
-    assert_eq!(rt; files.get("out"), Some(b"".as_slice()));
-    assert_eq!(rt; files.write(b"ab"), Ok(2));
-    assert_eq!(rt; files.write(b"c"), Ok(1));
-    assert_eq!(rt; files.get("out"), Some(b"abc".as_slice()));
-    assert_eq!(rt; files.get("in"), Some(b"0123456789".as_slice()));
-    Ok(())
+// Says the next read of the open file.
+fn say_next<F: Files>(said: &mut String, files: &mut F, buf: &mut [u8; 6]) -> Result<(), NoMemory>
+    requires { IsSome (F.reading files.old) }
+    ensures { F.reading files.new ≡ F.reading files.old }
+{
+    let moved = files.read(buf);
+    say_read(said, moved, buf.as_slice())
 }
 
-// Call 0 creates, and calls 1, 2 and 3 write 4,096, 4,096 and 1,808 bytes.
-#[test]
-fn a_saved_file_holds_what_came_before_the_fault(rt: HostRuntime) -> Result<(), Fail> {
-    let alloc = rt.alloc();
-    let bytes = vec![in alloc; 7; 10_000]?;
-    for (failing, want) in [
-        (0, None),
-        (1, Some(0)),
-        (2, Some(4096)),
-        (3, Some(8192)),
-        (4, Some(10_000)),
-    ] {
-        let mut files = MemFiles::new(alloc, vec![in alloc; failing]?);
-        assert_eq!(rt; save(&mut files, "out", &bytes).is_ok(), failing == 4);
-        assert_eq!(rt; files.get("out").map(|held| held.len()), want);
+// Says the first reads of the file of this name.
+fn say_file<F: Files>(said: &mut String, files: &mut F, name: &str) -> Result<(), NoMemory> {
+    match files.open(name) {
+        Ok(()) => {
+            let mut buf = UNREAD;
+            say_next(said, files, &mut buf)?;
+            say_next(said, files, &mut buf)?;
+            say_next(said, files, &mut buf)?;
+            say_next(said, files, &mut buf)
+        }
+        Err(Failed) => Ok(said.push_str("not opened\n")?),
     }
-    Ok(())
 }
 
-// Each write of a chunk is one call: the first one is of 4,096 bytes where the text is longer, and
-// else of the text.
-#[test]
-fn a_text_is_generated_in_chunks(rt: HostRuntime) -> Result<(), Fail> {
-    let mut whole = MemSink::new(rt.alloc(), Vec::new(rt.alloc()));
-    assert!(rt; generate(1, 100, &mut whole).is_ok());
-    assert!(rt; whole.bytes().len() > 3 * 4096);
-    for (failing, functions, left) in [(0, 1, 0), (0, 100, 0), (1, 100, 4096), (2, 100, 8192)] {
-        let mut out = MemSink::new(rt.alloc(), vec![in rt.alloc(); failing]?);
-        assert!(rt; generate(1, functions, &mut out).is_err());
-        assert_eq!(rt; out.bytes().len(), left);
-        assert!(rt; whole.bytes().starts_with(out.bytes()));
+// Says a write into the created file.
+fn say_write<F: Files>(said: &mut String, files: &mut F, piece: &[u8]) -> Result<(), NoMemory>
+    requires { IsSome (F.writing files.old) }
+    ensures { F.writing files.new ≡ F.writing files.old }
+{
+    let moved = files.write(piece);
+    say_moved(said, moved)?;
+    Ok(said.push('\n')?)
+}
+
+fn say_written(said: &mut String, files: &MemFiles, name: &str) -> Result<(), NoMemory> {
+    match files.get(name) {
+        Some(bytes) => say_bytes(said, bytes)?,
+        None => said.push_str("none")?,
     }
-    Ok(())
+    Ok(said.push('\n')?)
 }
 
-#[test]
-fn a_standard_source_hands_faults_on(rt: HostRuntime) {
-    let mut source = StdSource::new(Flaky { calls: 0 });
-    let mut buf = [0u8; 2];
-    for want in [Ok(1), Ok(1), Err(Failed), Ok(1)] {
-        assert_eq!(rt; source.read(&mut buf), want);
+// Says writes into a file that it creates, and what is there after the first one and after all.
+fn say_created(said: &mut String, files: &mut MemFiles, name: &str) -> Result<(), NoMemory> {
+    match files.create(name) {
+        Ok(()) => {
+            say_write(said, files, b"ab")?;
+            say_written(said, files, name)?;
+            say_write(said, files, b"ab")?;
+            say_write(said, files, b"c")?;
+            say_written(said, files, name)
+        }
+        Err(Failed) => Ok(said.push_str("not created\n")?),
     }
-    assert_eq!(rt; buf, [4, 0]);
 }
 
-#[test]
-fn a_standard_sink_fails_where_nothing_is_taken(rt: HostRuntime) {
-    let mut sink = StdSink::new(Flaky { calls: 0 });
-    for want in [Ok(1), Ok(1), Err(Failed), Err(Failed), Ok(1)] {
-        assert_eq!(rt; sink.write(b"ab"), want);
+const DIGITS: &[u8] = b"0123456789";
+
+fn put_two(alloc: Global, files: &mut MemFiles) -> Result<(), NoMemory> {
+    files.insert("in", DIGITS.to_vec(alloc)?)?;
+    Ok(files.insert("out", b"old".to_vec(alloc)?)?)
+}
+
+fn in_memory(row: &mut Row, calls: &str) -> Result<(), NoMemory> {
+    let failing = listed(row.alloc, calls)?;
+    let mut files = MemFiles::new(row.alloc, failing);
+    put_two(row.alloc, &mut files)?;
+    say_file(&mut row.said, &mut files, "missing")?;
+    say_file(&mut row.said, &mut files, "in")?;
+    say_created(&mut row.said, &mut files, "out")?;
+    say_written(&mut row.said, &files, "in")
+}
+
+// Says whether a file is saved.
+fn say_saved<F: Files>(
+    said: &mut String,
+    files: &mut F,
+    name: &str,
+    bytes: &[u8],
+) -> Result<(), NoMemory> {
+    match save(files, name, bytes) {
+        Ok(()) => Ok(said.push_str("saved\n")?),
+        Err(Failed) => Ok(said.push_str("not saved\n")?),
     }
-    assert_eq!(rt; sink.write(b""), Ok(0));
-    assert_eq!(rt; StdSink::new(rt.stdout()).write(b"ab\n"), Ok(3));
 }
 
-#[test]
-fn a_folder_is_read_and_written(rt: HostRuntime) -> Result<(), Fail> {
-    let alloc = rt.alloc();
-    let folder = env::temp_dir(&rt)?;
-    let name = format!(in alloc; "cc_io_{}", process::id(rt.process()))?;
-    let mut files = DirFiles::new(alloc, &rt, folder.as_str())?;
-    assert_eq!(rt; files.open(&name), Err(Failed));
-    assert_eq!(rt; files.open("."), Err(Failed));
-    assert_eq!(rt; files.create("cc_io_missing/out"), Err(Failed));
-    save(&mut files, &name, b"0123456789")?;
-    files.open(&name)?;
-    let mut buf = [0u8; 6];
-    assert_eq!(rt; files.read(&mut buf), Ok(6));
-    assert_eq!(rt; buf, *b"012345");
-    assert_eq!(rt; files.read(&mut buf), Ok(4));
-    assert_eq!(rt; buf, *b"678945");
-    assert_eq!(rt; files.read(&mut buf), Ok(0));
-    fs::remove_file(&rt, folder.as_path().join(alloc, name.as_str())?.as_path())?;
-    Ok(())
+fn saves(row: &mut Row, calls: &str) -> Result<(), NoMemory> {
+    let bytes = vec![in row.alloc; 7; 10_000]?;
+    let failing = listed(row.alloc, calls)?;
+    let mut files = MemFiles::new(row.alloc, failing);
+    say_saved(&mut row.said, &mut files, "out", &bytes)?;
+    say_written(&mut row.said, &files, "out")
+}
+
+// Says the ends of calls on the files of a folder.
+fn say_folder<F: Files>(said: &mut String, files: &mut F, name: &str) -> Result<(), NoMemory> {
+    say_file(said, files, name)?;
+    say_file(said, files, ".")?;
+    match files.create("cc_io_missing/out") {
+        Ok(()) => said.push_str("created\n")?,
+        Err(Failed) => said.push_str("not created\n")?,
+    }
+    say_saved(said, files, name, DIGITS)?;
+    say_file(said, files, name)
+}
+
+fn in_folder(host: &HostRuntime, said: &mut String) -> io::Result<Result<(), NoMemory>> {
+    let alloc = host.alloc();
+    let folder = env::temp_dir(host)?;
+    let name = format!(in alloc; "cc_io_{}", process::id(host.process()))?;
+    let mut files = DirFiles::new(alloc, host, folder.as_str())?;
+    let done = say_folder(said, &mut files, &name);
+    fs::remove_file(host, folder.as_path().join(alloc, name.as_str())?.as_path())?;
+    Ok(done)
+}
+
+fn folder(host: &HostRuntime, row: &mut Row) -> Result<(), NoMemory> {
+    match in_folder(host, &mut row.said) {
+        Ok(done) => done,
+        Err(_) => row.say("the system fails"),
+    }
+}
+
+// Says how much of a program of 100 functions is there, of which another one may be a front.
+fn say_generated(said: &mut String, out: &[u8], whole: &[u8]) -> Result<(), NoMemory> {
+    let mark = if whole.starts_with(out) { "" } else { "other " };
+    Ok(write!(said, "{mark}{} of {}\n", out.len(), whole.len())?)
+}
+
+fn generates(row: &mut Row, words: &str) -> Result<(), NoMemory> {
+    let (calls, count) = split(words);
+    let failing = listed(row.alloc, calls)?;
+    let mut out = MemSink::new(row.alloc, failing);
+    let mut whole = MemSink::new(row.alloc, Vec::new(row.alloc));
+    let made = generate(1, count.parse::<u32>().unwrap_or(0), &mut out);
+    let all = generate(1, 100, &mut whole);
+    if made.is_err() {
+        row.said.push_str("failed ")?;
+    }
+    if all.is_err() {
+        row.said.push_str("the whole failed ")?;
+    }
+    say_generated(&mut row.said, out.bytes(), whole.bytes())
+}
+
+/// Makes a call on what is handed to the top call.
+pub fn outside(host: &HostRuntime, row: &mut Row, word: &str, words: &str) -> Result<(), NoMemory> {
+    match word {
+        "read" => reads(row, words),
+        "write" => writes(host, row, words),
+        "files" => in_memory(row, words),
+        "folder" => folder(host, row),
+        "save" => saves(row, words),
+        "generate" => generates(row, words),
+        _ => row.say("no call"),
+    }
 }

@@ -1,128 +1,108 @@
-//! Texts that several tests share.
+//! Watchers of a row, by themselves. `tell NAME BEFORE AFTER TIMES RULE:NODE ..` gives them what a
+//! recipe did to a function, the steps so many times; where one refuses it, `memory` is said.
+//! `texts TEXT` says each one's name and its text behind TEXT, or `memory`.
 
+use crate::row::{Row, bytes_of, say_bytes, split};
 use c_lex::Name;
-use cc_watch::{Counter, LogKeeper, Row, Watcher};
+use cc_watch::Watcher;
 use g_graph::{Rule, Step, StepList};
 use no_memory::NoMemory;
 use std::alloc::Global;
-use std::test::Fail;
 
-// A function: its name, its values before and after, and the steps.
-type Line<'a> = (&'a [u8], u32, u32, &'a [(Rule, u32)]);
-
-fn row_of(alloc: Global, (name, before, after, steps): Line) -> Result<Row, NoMemory> {
-    let mut list = Vec::new(alloc);
-    for (rule, node) in steps {
-        list.push(Step {
-            rule: *rule,
-            node: *node,
-        })?;
+fn rule_named(name: &str) -> Rule {
+    match name {
+        "fold" => Rule::Fold,
+        "cne" => Rule::Cne,
+        "dne" => Rule::Dne,
+        "inv" => Rule::Inv,
+        "psh" => Rule::Push,
+        "pll" => Rule::Pull,
+        "ivt" => Rule::Invert,
+        "url" => Rule::Unroll,
+        _ => Rule::Inline,
     }
-    Ok(Row {
-        name: Name::from_slice(alloc, name)?,
-        before,
-        after,
-        steps: StepList::from(list),
-    })
 }
 
-// The texts of a counter and of a keeper that were given these rows.
-fn texts_of(alloc: Global, lines: &[Line]) -> Result<(Vec<u8>, Vec<u8>), NoMemory> {
-    let mut counter = Counter::new();
-    let mut keeper = LogKeeper::new(alloc);
-    for line in lines {
-        let row = row_of(alloc, *line)?;
-        counter.tell(&row)?;
-        keeper.tell(&row)?;
-    }
-    let mut count = Vec::new(alloc);
-    counter.text(&mut count)?;
-    let mut log = Vec::new(alloc);
-    keeper.text(&mut log)?;
-    Ok((count, log))
+fn number(word: &str) -> u32 {
+    word.parse::<u32>().unwrap_or(0)
 }
 
-const LONG: &[u8] = b"a23456789012345678901234567890123456789012345678901234567890123";
-
-#[test]
-fn watchers_give_the_texts_of_their_rows(rt: HostRuntime) -> Result<(), Fail> {
-    let alloc = rt.alloc();
-    // The rows, the line of the counter, and the log.
-    let rows: [(&[Line], &[u8], &[u8]); 5] = [
-        (
-            &[],
-            b"functions 0 fold 0 cne 0 dne 0 inv 0 psh 0 pll 0 ivt 0 url 0 iln 0 \
-              before 0 after 0\n",
-            b"",
-        ),
-        (
-            &[(
-                b"main",
-                12,
-                8,
-                &[(Rule::Fold, 2), (Rule::Dne, 1), (Rule::Dne, 0)],
-            )],
-            b"functions 1 fold 1 cne 0 dne 2 inv 0 psh 0 pll 0 ivt 0 url 0 iln 0 \
-              before 12 after 8\n",
-            b"function main 12 8\nfold 2\ndne 1\ndne 0\n",
-        ),
-        (
-            &[
-                (b"d", 11, 11, &[]),
-                (b"b", 15, 15, &[(Rule::Inline, 0)]),
-                (b"c", 15, 15, &[(Rule::Inline, 0)]),
-                (b"main", 20, 28, &[(Rule::Inline, 1), (Rule::Inline, 3)]),
-            ],
-            b"functions 4 fold 0 cne 0 dne 0 inv 0 psh 0 pll 0 ivt 0 url 0 iln 4 \
-              before 61 after 69\n",
-            b"function d 11 11\nfunction b 15 15\niln 0\nfunction c 15 15\niln 0\nfunction main \
-              20 28\niln 1\niln 3\n",
-        ),
-        (
-            &[
-                (
-                    b"f",
-                    2147483648,
-                    1,
-                    &[(Rule::Push, 4294967295), (Rule::Pull, 0)],
-                ),
-                (
-                    b"g",
-                    2147483648,
-                    4294967295,
-                    &[(Rule::Cne, 7), (Rule::Inv, 7)],
-                ),
-            ],
-            b"functions 2 fold 0 cne 1 dne 0 inv 1 psh 1 pll 1 ivt 0 url 0 iln 0 \
-              before 0 after 0\n",
-            b"function f 2147483648 1\npsh 4294967295\npll 0\nfunction g 2147483648 \
-              4294967295\ncne 7\ninv 7\n",
-        ),
-        (
-            &[(LONG, 0, 0, &[(Rule::Invert, 1), (Rule::Unroll, 10)])],
-            b"functions 1 fold 0 cne 0 dne 0 inv 0 psh 0 pll 0 ivt 1 url 1 iln 0 \
-              before 0 after 0\n",
-            b"function a23456789012345678901234567890123456789012345678901234567890123 0 0\nivt \
-              1\nurl 10\n",
-        ),
-    ];
-    for (lines, count, log) in rows {
-        let texts = texts_of(alloc, lines)?;
-        assert_eq!(rt; texts.0.as_slice(), count);
-        assert_eq!(rt; texts.1.as_slice(), log);
+fn push_steps(steps: &mut Vec<Step>, words: &str) -> Result<(), NoMemory> {
+    for word in words.split(' ') {
+        if let Some((rule, node)) = word.split_once(':') {
+            steps.push(Step {
+                rule: rule_named(rule),
+                node: number(node),
+            })?;
+        }
     }
     Ok(())
 }
 
-#[test]
-fn a_text_is_appended(rt: HostRuntime) -> Result<(), Fail> {
-    let alloc = rt.alloc();
-    let mut keeper = LogKeeper::new(alloc);
-    keeper.tell(&row_of(alloc, (b"f", 8, 8, &[]))?)?;
-    let mut out = Vec::from_slice(alloc, b"kept ")?;
-    keeper.text(&mut out)?;
-    assert_eq!(rt; out.as_slice(), b"kept function f 8 8\n".as_slice());
-    assert_eq!(rt; keeper.name(), "log");
-    assert_eq!(rt; Counter::new().name(), "count");
+fn steps_of(alloc: Global, times: u32, words: &str) -> Result<StepList, NoMemory> {
+    let mut steps = Vec::new(alloc);
+    for _ in 0..times {
+        push_steps(&mut steps, words)?;
+    }
+    Ok(StepList::from(steps))
+}
+
+// What is told of a function: its name, its values before and after, how often it has the steps,
+// and these.
+fn told_of(alloc: Global, words: &str) -> Result<cc_watch::Row, NoMemory> {
+    let (name, rest) = split(words);
+    let (before, rest) = split(rest);
+    let (after, rest) = split(rest);
+    let (times, steps) = split(rest);
+    let name = Name::from_slice(alloc, name.as_bytes())?;
+    let steps = steps_of(alloc, number(times), steps)?;
+    Ok(cc_watch::Row {
+        name,
+        before: number(before),
+        after: number(after),
+        steps,
+    })
+}
+
+fn tell_all(watchers: &mut [Box<dyn Watcher>], told: &cc_watch::Row) -> Result<(), NoMemory> {
+    for watcher in watchers.iter_mut() {
+        watcher.tell(told)?;
+    }
+    Ok(())
+}
+
+/// Tells the watchers a row.
+pub fn tell_row(
+    row: &mut Row,
+    words: &str,
+    watchers: &mut Vec<Box<dyn Watcher>>,
+) -> Result<(), NoMemory> {
+    let told = told_of(row.alloc, words)?;
+    match tell_all(watchers, &told) {
+        Ok(()) => Ok(()),
+        Err(NoMemory) => row.say("memory"),
+    }
+}
+
+fn say_text(row: &mut Row, before: &str, watcher: &Box<dyn Watcher>) -> Result<(), NoMemory> {
+    let mut text = bytes_of(row.alloc, before)?;
+    row.said.push_str(watcher.name())?;
+    row.said.push(' ')?;
+    match watcher.text(&mut text) {
+        Ok(()) => say_bytes(&mut row.said, &text)?,
+        Err(NoMemory) => row.said.push_str("memory")?,
+    }
+    Ok(row.said.push('\n')?)
+}
+
+/// Says the texts of the watchers, each behind this text.
+pub fn say_texts(
+    row: &mut Row,
+    before: &str,
+    watchers: &[Box<dyn Watcher>],
+) -> Result<(), NoMemory> {
+    for watcher in watchers {
+        say_text(row, before, watcher)?;
+    }
     Ok(())
 }

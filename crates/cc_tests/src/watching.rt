@@ -1,56 +1,33 @@
-//! A watcher of the tests.
+//! A watcher that may refuse rows, and its text.
 ghost use Rattle.std.specs.Prelude.{◌≡◌};
 
+use crate::row::split;
 use cc_watch::{LogKeeper, Row, Watcher};
 use no_memory::NoMemory;
 use std::alloc::Global;
-
-/// The name of a watcher: `a`, `b` or `c`.
-#[derive(Clone, Copy)]
-pub enum Label {
-    A,
-    B,
-    C,
-}
 
 /// A keeper of the log with a name of its own, which takes so many rows and refuses the next one.
 /// It may refuse its text too.
 #[derive(Drop)]
 pub struct Watching {
-    pub label: Label,
-    pub room: u32,
-    pub has_text: bool,
-    pub log: LogKeeper,
-}
-
-impl Watching {
-    /// A watcher of this name that holds no row.
-    pub fn new(alloc: Global, label: Label, room: u32, has_text: bool) -> Watching {
-        Watching {
-            label,
-            room,
-            has_text,
-            log: LogKeeper::new(alloc),
-        }
-    }
+    label: String,
+    room: u32,
+    has_text: bool,
+    log: LogKeeper,
 }
 
 impl Watcher for Watching {
+    ghost use Rattle.std.specs.String.{string_bytes};
     ghost use Rattle.cc_watch.specs.Texts.{log_text};
-    ghost use Rattle.cc_tests.specs.Label.{name_of};
 
-    ghost named = { λ watching. name_of watching.label };
+    ghost named = { λ watching. string_bytes watching.label };
 
     ghost stands_for = { λ watching rows. watching.log ≡ rows };
 
     ghost text_of = { λ _ rows. log_text rows };
 
     fn name(&self) -> &str {
-        match self.label {
-            Label::A => "a",
-            Label::B => "b",
-            Label::C => "c",
-        }
+        self.label.as_str()
     }
 
     fn tell(&mut self, row: &Row) -> Result<(), NoMemory> {
@@ -69,4 +46,17 @@ impl Watcher for Watching {
             Err(NoMemory)
         }
     }
+}
+
+/// The watcher that the words `NAME ROOM` or `NAME ROOM silent` ask for, the second of which
+/// refuses its text.
+pub fn watching_of(alloc: Global, words: &str) -> Result<Watching, NoMemory> {
+    let (name, rest) = split(words);
+    let (room, text) = split(rest);
+    Ok(Watching {
+        label: String::from_str(alloc, name)?,
+        room: room.parse::<u32>().unwrap_or(0),
+        has_text: text.is_empty(),
+        log: LogKeeper::new(alloc),
+    })
 }
