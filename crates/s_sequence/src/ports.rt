@@ -34,7 +34,7 @@ impl Default for Port {
 #[derive(Debug, Drop)]
 pub struct Ports {
     pub first: u32,
-    list: SmallVec<Port, 3>,
+    list: SmallVec<Port, 2>,
     pub end: u32,
 }
 
