@@ -47,7 +47,8 @@ house@docs/NAMES.md@s/ stale,//@crates.txt:[0-9]*: g_pass_stale has an ending th
 house@crates.txt@/^r_cne:/s/$/ board_core/@crates.txt:[0-9]*: r_cne stands on board_core, which its row of docs/NAMES.md does not name
 house@crates/g_graph_laws/src/laws.rt@s/fn formed_is_well_formed()/fn formed_is_well_formed(n: u32)/@g_graph_laws has a function that takes an argument
 house@crates/limits/src/lib.rt@1s/[.]$/, with the names by which the crates above know it, and with what it is that each of them counts./@crates/limits/src/lib.rt:1: the first sentence is longer than 110 characters
-house@crates/g_pass_stale/proofs/lemmas.antt@1d@files of proofs begin with no comment
+house@tools/house.sh@s/^most_bare=.*/most_bare=1/@files of proofs begin with no comment
+house@docs/CONTRIBUTING.md@s,^| `c_check_statement` | `src/loops.rt`,| `c_check_statement` | `src/forms.rt`,@docs/CONTRIBUTING.md:[0-9]*: there is no src/forms.rt
 house@docs/GLOSSARY.md@s/`Exi\(ted\)`/`Exo\1`/@docs/GLOSSARY.md:[0-9]*: no file of the crates has Exo
 house@docs/ARCHITECTURE.md@s/images_keep_meaning| cc_source_keeps/globals_are_shown| cc_source_keeps/@docs/ARCHITECTURE.md:[0-9]*: cc_emit_keeps has no law globals_are_shown
 house@docs/ARCHITECTURE.md@s/globals_are_shown| cc_emit_keeps/globals_are_shown| cc_compile_keeps/@docs/ARCHITECTURE.md:[0-9]*: cc_compile_keeps does not cite globals_are_shown
@@ -150,22 +151,29 @@ bare=$(find crates -path '*/out' -prune -o -path '*/proofs/*.antt' ! -name Lib.a
     | xargs -0 awk 'FNR == 1 && !/^--/' | wc -l)
 [ "$bare" -le $most_bare ] || fail "$bare files of proofs begin with no comment, where $most_bare did: give the new ones a first line (-- )"
 
-# ---- paths of the documents: a word in backquotes that has a slash and a folder of the repository, or a crate, before it
+# ---- paths of the documents: a word in backquotes that has a slash and a folder of the repository, or a crate, before it; one that
+# begins with src, specs or proofs is of a crate that the first cell of its row names, or, where that names none, of any crate
 
+# file and line, the word, and the words in backquotes in the first cell
 awk '
     FNR == 1 { fenced = 0 }
     /^```/ { fenced = !fenced; next }
     fenced { next }
     {
+        row = ""
+        if (/^\| `/) { split($0, cells, "|"); n = split(cells[2], parts, "`"); for (i = 2; i <= n; i += 2) row = row " " parts[i] }
         n = split($0, parts, "`")
-        for (i = 2; i <= n; i += 2) if (parts[i] ~ /^[A-Za-z0-9_.*\/:]+$/) print FILENAME ":" FNR ": " parts[i]
+        for (i = 2; i <= n; i += 2) if (parts[i] ~ /^[A-Za-z0-9_.*\/:+]+$/) print FILENAME ":" FNR ": " parts[i] row
     }
 ' README.md docs/*.md >"$folder/words"
 sed -n 's/^\([a-z][a-z0-9_]*\).*/\1/p' crates.txt >"$folder/known"
 find .ci README.md crates docs examples rows tools -path '*/out' -prune -o -print >"$folder/files"
 awk -v files="$folder/files" -v known="$folder/known" '
     BEGIN {
-        while ((getline line < files) > 0) { there[line] = 1; file[++count] = line }
+        while ((getline line < files) > 0) {
+            there[line] = 1; file[++count] = line
+            if (line ~ /^crates\/[^\/]*\/(src|specs|proofs)\//) { sub(/^crates\/[^\/]*\//, "", line); tail[line] = 1; sub(/\.(rt|antt)$/, "", line); tail[line] = 1 }
+        }
         while ((getline line < known) > 0) crate[line] = 1
     }
     function matches(path,  regex, i) {
@@ -182,6 +190,17 @@ awk -v files="$folder/files" -v known="$folder/known" '
         if (word ~ /^[a-z0-9_]+\.sh$/) { if (!matches("tools/" word)) print $1 " there is no tools/" word; next }
         if (word !~ /\//) next
         first = word; sub(/\/.*/, "", first)
+        if (first ~ /^(src|specs|proofs)$/) {
+            sub(/\/$/, "", word)
+            if (word == first || word ~ /\.\.|\/[Xx]([A-Z.]|$)/) next
+            named = 0; found = 0
+            for (i = 3; i <= NF; i++) if ($i in crate) {
+                named = 1; path = "crates/" $i "/" word
+                if ((path in there) || ((path ".rt") in there) || ((path ".antt") in there)) found = 1
+            }
+            if (named ? !found : !(word in tail)) print $1 " there is no " word
+            next
+        }
         if (first in crate) word = "crates/" word
         else if (first !~ /^(crates|docs|tools|examples|rows|\.ci)$/) next
         if (!matches(word)) print $1 " there is no " $2
