@@ -1,0 +1,8 @@
+//! The command `check`: whether a log of a build certifies an image of a source, whoever wrote them.
+//! Promise: each outcome comes with its cause, of the whole files, and no file changes.
+//! Always: a certified image keeps the meaning of its source.
+#![tactic(auto)]
+
+mod command;
+
+pub use command::check;
