@@ -1,2 +1,3 @@
 mod Beginnings
 mod Causes
+mod CertifiedIsTold

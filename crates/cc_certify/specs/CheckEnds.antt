@@ -66,3 +66,13 @@ CheckCause source log image _ before after = ⊥
 pub record CheckEnds (source log image : Name) (ended : Outcome) (before after : FilesSeen) : Type 0 where
   pub cause : CheckCause source log image ended before after
   pub files : Unchanged before after
+
+-- ---- a law
+
+-- Where no file was left unread, a log that certifies the image is told to, or memory ran out.
+abbrev pub CertifiedIsTold : Type 0
+CertifiedIsTold =
+    (source log image : Name) (ended : Outcome) (before after : FilesSeen) → CheckEnds source log image ended before after →
+    (ReadFails source before after → ⊥) → (ReadFails log before after → ⊥) → (ReadFails image before after → ⊥) →
+    ForSome before.known (λ files.
+    Certifies (content source files) (content log files) (content image files) → (ended ≡ Certified) ⊎ (ended ≡ NoMemory))

@@ -5,6 +5,7 @@ ghost use Rattle.std.specs.Option.{ForSome};
 ghost use Rattle.limits.specs.Limits.{most_image_bytes, most_source_bytes};
 ghost use Rattle.cc_io.specs.Files.{content};
 ghost use Rattle.cc_outside.specs.Outside.{files_seen, ReadFails};
+ghost use Rattle.cc_source_laws.specs.SourceLaws.{AreBytes};
 ghost use Rattle.cc_report.specs.declared.outcome.Outcome.TheVariants.{NoMemory, ReadFault};
 ghost use Rattle.log_check.specs.Log.{most_log_bytes};
 ghost use Rattle.cc_certify.specs.CheckEnds.{outcome_of, CheckEnds, IsJudged};
@@ -96,13 +97,14 @@ fn outcome_of(fault: JudgeFault, source: &[u8]) -> Outcome
     Outcome::NotCertified { kind, place }
 }
 
-// What is judged of what was read.
-fn judged(alloc: Global, read: &Texts) -> Outcome
-    ensures { IsJudged result read.now.source.items read.now.log.items read.now.image.items }
+// What is judged of a source, a log and an image.
+fn judged(alloc: Global, source: &[u8], log: &[u8], image: &[u8]) -> Outcome
+    ensures judged { IsJudged result source.now log.now image.now }
+    ensures bytes { AreBytes source.now }
 {
-    match judge(alloc, &read.source, &read.log, &read.image) {
+    match judge(alloc, source, log, image) {
         Ok(()) => Outcome::Certified,
-        Err(fault) => outcome_of(fault, &read.source),
+        Err(fault) => outcome_of(fault, source),
     }
 }
 
@@ -121,8 +123,11 @@ pub fn check<F: Files>(
         CheckEnds source.now log.now image.now result (seen files.old) (seen files.new) }
 {
     log_judge::laws::images_are_short();
-    match texts_of(alloc, files, source, log, image) {
-        Ok(read) => judged(alloc, &read),
-        Err(outcome) => outcome,
-    }
+    let read = match texts_of(alloc, files, source, log, image) {
+        Ok(read) => read,
+        Err(outcome) => return outcome,
+    };
+    let ended = judged(alloc, &read.source, &read.log, &read.image);
+    drop(read);
+    ended
 }

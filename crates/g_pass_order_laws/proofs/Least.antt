@@ -86,13 +86,13 @@ count-le p q (suc n) within = by (p n) (q n) (within n) (count-le p q n within)
 
 -- where one passes the first test alone, fewer pass the second
 pub count-less : (p q : ℕ → Bool) (n i : ℕ) → ((k : ℕ) → q k ≡ true → p k ≡ true) → i < n → p i ≡ true → q i ≡ false → count_below q n < count_below p n
-count-less p q zero i within low yes no = absurd (omega arith)
-count-less p q (suc n) i within low yes no = by (p n) (q n) refl refl (cases_eq i n) (λ lower. count-less p q n i within lower yes no)
+count-less p q zero i within low passes fails = absurd (omega arith)
+count-less p q (suc n) i within low passes fails = by (p n) (q n) refl refl (cases_eq i n) (λ lower. count-less p q n i within lower passes fails)
   where
     by : (a b : Bool) → p n ≡ a → q n ≡ b → (i ≡ n) ⊎ (i ≡ n → ⊥) → (i < n → count_below q n < count_below p n) → counted b (count_below q n) < counted a (count_below p n)
-    by true true e d (inl same) rest = let clash : true ≡ false = sym d ∙ (ap q (sym same) ∙ no) in absurd cc
+    by true true e d (inl same) rest = let clash : true ≡ false = sym d ∙ (ap q (sym same) ∙ fails) in absurd cc
     by true false e d (inl same) rest = omega (arith, count-le p q n within)
-    by false b e d (inl same) rest = let clash : false ≡ true = sym e ∙ (ap p (sym same) ∙ yes) in absurd cc
+    by false b e d (inl same) rest = let clash : false ≡ true = sym e ∙ (ap p (sym same) ∙ passes) in absurd cc
     by true true e d (inr other) rest = omega (arith, rest (omega (arith, low, other)))
     by true false e d (inr other) rest = omega (arith, rest (omega (arith, low, other)))
     by false true e d (inr other) rest = let clash : false ≡ true = sym e ∙ within n d in absurd cc

@@ -22,8 +22,11 @@ calls-known ls j k called =
     elim (cases_lt j (length ls)) [
       | inl inside ↦
           let row = subst (λ xs. Contains xs k) (get_or-map (callees (length ls)) ls j no_lambda [] inside) called in
-          omega (arith, All-contains (λ f. f < length ls) (callees (length ls) (get_or ls j no_lambda)) k (callees-low (length ls) (get_or ls j no_lambda)) row,
-          length-map ls (callees (length ls)))
+          omega (
+            arith,
+            All-contains (λ f. f < length ls) (callees (length ls) (get_or ls j no_lambda)) k (callees-low (length ls) (get_or ls j no_lambda)) row,
+            length-map ls (callees (length ls)),
+          )
       | inr past ↦
           let none = subst (λ xs. Contains xs k) (get_or_past (calls_of ls) j [] (omega (arith, past, length-map ls (callees (length ls))))) called in
           absurd (omega (arith, none.1))

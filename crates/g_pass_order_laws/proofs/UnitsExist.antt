@@ -1,5 +1,5 @@
 -- Functions that call each other have units and ranks.
-use Rattle.std.proofs.Common.{◌≡◌, ℕ, zero, suc, ◌+◌, ◌<◌, ◌≤◌, ◌⊎◌, Bool, true, false, List, [], ◌∷◌, length, map, slice_index, Contains, refl, sym, subst, ◌∙◌, inl, inr, arith}
+use Rattle.std.proofs.Common.{◌≡◌, ℕ, zero, suc, ◌<◌, ◌≤◌, Bool, true, false, List, [], ◌∷◌, length, map, slice_index, Contains, refl, sym, subst, ◌∙◌, inl, inr, arith}
 use Rattle.std.specs.Prelude.{◌&&◌, ◌||◌, not}
 use Rattle.std.specs.Bool.{Decides}
 use Rattle.std.specs.List.{range_with_len}
@@ -61,7 +61,7 @@ module _ (calls : List (List ℕ)) (known : AllKnown calls) where
 
   abbrev rank_by : (bound j : ℕ) → ℕ
   rank_by zero j = 0
-  rank_by (suc bound) j = bound_of (leaves j) (rank_by bound) many
+  rank_by (suc bound) j = bound_of (leaves j) (λ k. rank_by bound k) many
 
   -- how many functions calls lead to from j
   abbrev reached : ℕ → ℕ

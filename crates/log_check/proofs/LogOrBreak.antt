@@ -27,7 +27,7 @@ use Rattle.log_check.proofs.ReadSoFar.{begins_with_row, row-long, row_is, shorte
 
 same-text : (xs ys : List ℕ) → (xs ≡ ys) ⊎ (xs ≢ ys)
 same-text xs ys =
-    elim (cases_Bool (bytes_eq xs ys)) [ inl yes ↦ inl ((bytes_eq-Decides xs ys).0 yes) | inr no ↦ inr (not_same xs ys (sym no)) ]
+    elim (cases_Bool (bytes_eq xs ys)) [ inl same ↦ inl ((bytes_eq-Decides xs ys).0 same) | inr other ↦ inr (not_same xs ys (sym other)) ]
 
 found-below : (P : ℕ → Type 0) → ((n : ℕ) → P n ⊎ (P n → ⊥)) → (bound : ℕ) → ((n : ℕ) × (n < bound) × P n) ⊎ ((n : ℕ) → n < bound → P n → ⊥)
 found-below P test zero = inr (λ n low h. absurd (omega (arith, low)))
@@ -58,10 +58,10 @@ name-of (b ∷ bs) = by (cases_Bool (is_letter b)) (cases_Bool (list_all is_name
     by : (is_letter b ≡ true) ⊎ (is_letter b ≡ false) → (list_all is_name_byte bs ≡ true) ⊎ (list_all is_name_byte bs ≡ false) →
         (most_name_bytes < length (b ∷ bs)) ⊎ (length (b ∷ bs) ≤ most_name_bytes) →
         (IsIdentifier (b ∷ bs) × (length (b ∷ bs) ≤ most_name_bytes)) ⊎ (IsIdentifier (b ∷ bs) → length (b ∷ bs) ≤ most_name_bytes → ⊥)
-    by (inr no) rest size = inr (λ h short. let clash : true ≡ false = sym h.0 ∙ no in absurd cc)
-    by (inl yes) (inr no) size = inr (λ h short. let clash : true ≡ false = sym h.1 ∙ no in absurd cc)
-    by (inl yes) (inl all) (inl long) = inr (λ h short. absurd (omega (arith, long, short)))
-    by (inl yes) (inl all) (inr short) = inl ((yes, all), short)
+    by (inr other) rest size = inr (λ h short. let clash : true ≡ false = sym h.0 ∙ other in absurd cc)
+    by (inl letter) (inr other) size = inr (λ h short. let clash : true ≡ false = sym h.1 ∙ other in absurd cc)
+    by (inl letter) (inl all) (inl long) = inr (λ h short. absurd (omega (arith, long, short)))
+    by (inl letter) (inl all) (inr short) = inl ((letter, all), short)
 
 -- ---- a text that is split at the first of a byte
 
