@@ -98,8 +98,7 @@ module _ (s l i source log image : List ℕ) (source_is : source ≡ take 104857
   whole-fault (OtherImage byte) other h =
       let n = log-named (OtherImage byte) h.0 h.2 in
       let w = n.wrong in
-      let few = short h.0 h.1 n.functions w.lambdas w.right in
-      (
+      let few = short h.0 h.1 n.functions w.lambdas w.right in (
         h.0,
         accepts h.0 h.1,
         record {

@@ -1,16 +1,18 @@
 -- The names of a log against those of a program, and the lines of the log's functions.
-use Rattle.std.proofs.Common.{◌≡◌, ◌≢◌, ◌<◌, ◌≤◌, ◌+◌, ℕ, zero, suc, List, [], ◌∷◌, ◌++◌, length, map, take, drop, None, Some, slice_get, get_or, refl, sym, ap, subst, ◌∙◌, arith, below_more}
-use Rattle.std.specs.Prelude.{option_map, slice_index_or}
+use Rattle.std.proofs.Common.{◌≡◌, ◌≢◌, ◌<◌, ◌≤◌, ◌+◌, ℕ, zero, suc, List, [], ◌∷◌, ◌++◌, length, take, Some, slice_get, get_or, refl, sym, ap, subst, ◌∙◌, arith, below_more}
+use Rattle.std.specs.Prelude.{not, option_map, Bool, true, false}
+use Rattle.std.specs.Str.{bytes_eq}
+use Rattle.std.proofs.lemmas.Bool.{not-false}
+use Rattle.std.proofs.lemmas.Slice.Eq.{bytes_eq-Decides}
 use Rattle.std.proofs.lemmas.List.{length-map, take_more}
-use Rattle.std.proofs.lemmas.Option.{slice_get-get_or, slice_get-map, slice_get_past}
+use Rattle.std.proofs.lemmas.Option.{slice_get-get_or, slice_get-map}
 use Rattle.c_typed.specs.Typed.{FunctionTree, ProgramTree}
 use Rattle.g_build_def.specs.Functions.{graph, lambdas_made, names}
 use Rattle.cc_watch.specs.Rows.{PlainRow}
-use Rattle.log_check.specs.Log.{line_count, part_of, parts_from, parts_of, row_of_part, rows_of, PlainPart}
-use Rattle.log_replay.specs.Right.{no_part, part_at}
+use Rattle.log_check.specs.Log.{line_count, parts_from, parts_of, row_of_part, rows_of, PlainPart}
+use Rattle.log_replay.specs.Right.{part_at}
 use Rattle.log_judge.specs.Judgement.{line_of, names_of_log, IsMisnamed}
-use Rattle.log_judge.specs.Parting.{PartAt}
-use Rattle.log_judge.proofs.Parting.{ends-apart, ends-before, same-to-end}
+use Rattle.log_judge.proofs.Parting.{ends-apart, same-to-end}
 
 -- ---- names
 
@@ -30,9 +32,6 @@ pub record HasCome (p : ProgramTree) (log : List PlainPart) (index line : ℕ) :
   pub inside : index ≤ length p.functions
   pub same : AreSame p log index
   pub line_is : line ≡ line_of log index
-
-pub comes-first : (p : ProgramTree) (log : List PlainPart) → HasCome p log 0 1
-comes-first p log = record { inside = omega arith; same = λ k low. absurd (omega (arith, low)); line_is = refl }
 
 count-push : (rows : List PlainRow) (r : PlainRow) → line_count (rows ++ r ∷ []) ≡ line_count rows + suc (length r.steps)
 count-push [] r = omega arith
@@ -57,6 +56,13 @@ goes-on p log index line d f h inside within same =
       line_is = omega (arith, h.line_is, next-line log index d inside);
     }
 
+-- names that were compared
+pub names-differ : (a b : List ℕ) (differ : Bool) → differ ≡ not (bytes_eq a b) → differ ≡ true → a ≢ b
+names-differ a b differ e holds same = let clash : true ≡ false = sym holds ∙ (e ∙ ap not ((bytes_eq-Decides a b).1 same)) in absurd cc
+
+pub names-same : (a b : List ℕ) (differ : Bool) → differ ≡ not (bytes_eq a b) → differ ≡ false → a ≡ b
+names-same a b differ e fails = (bytes_eq-Decides a b).0 (not-false (bytes_eq a b) (sym e ∙ fails))
+
 -- ---- where names part
 
 pub other-name : (p : ProgramTree) (log : List PlainPart) (index line : ℕ) (d : PlainPart) (f : FunctionTree) → HasCome p log index line → index < length log → index < length p.functions →
@@ -70,16 +76,6 @@ other-name p log index line d f h inside within other =
             let both : Some (get_or log index d).name ≡ Some (get_or p.functions index f).name = sym (log-name log index d inside) ∙ (e ∙ own-name p index f within) in
             other (let equal : (get_or log index d).name ≡ (get_or p.functions index f).name = cc in equal);
       };
-      line_is = h.line_is;
-    }
-
-pub one-too-many : (p : ProgramTree) (log : List PlainPart) (index line : ℕ) → HasCome p log index line → index < length log → length p.functions ≤ index → IsMisnamed p log line
-one-too-many p log index line h inside past =
-    record {
-      index = index;
-      names =
-          ends-before (names_of_log log) (names p) index h.same (omega (arith, past, length-map p.functions (λ (f : FunctionTree). f.name)))
-          (omega (arith, inside, length-map log (λ (q : PlainPart). q.name))) [];
       line_is = h.line_is;
     }
 

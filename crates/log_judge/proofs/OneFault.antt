@@ -1,7 +1,7 @@
 -- A source, a log and an image have one fault at most, and none where the log certifies the image.
 use Rattle.std.proofs.Common.{◌≡◌, ◌≢◌, ◌<◌, ◌≤◌, ◌⊎◌, ℕ, List, length, refl, sym, ap, subst, ◌∙◌, inl, inr, arith}
 use Rattle.c_typed.specs.Typed.{ProgramTree}
-use Rattle.g_graph.specs.Plain.{PlainLambda, PlainOmega}
+use Rattle.g_graph.specs.Plain.{PlainOmega}
 use Rattle.g_build_def.specs.Functions.{names}
 use Rattle.g_build_def.specs.Functions as built
 use Rattle.cc_emit_def.specs.Image.{file_of_program}
@@ -10,13 +10,12 @@ use Rattle.cc_source.specs.Accepted as source_laws
 use Rattle.cc_source.specs.declared.fault.CompileFault.{CompileFault}
 use Rattle.cc_source.specs.declared.fault.CompileFault.TheVariants as source_fault
 use Rattle.log_check.specs.Log.{most_log_bytes, parts_of, rows_of, BreaksAt, LogsDoNotBreak, OneBreak, OneReading, PlainPart}
-use Rattle.log_replay.specs.Right.{AreRight}
 use Rattle.log_replay.specs.Fault.{IsReplayFault}
 use Rattle.log_replay.specs.Laws.{OneReplayFault, RightAreUnique, RightHaveNoFault}
 use Rattle.log_replay.specs.declared.fault.ReplayFault.{ReplayFault}
 use Rattle.log_replay.specs.declared.fault.ReplayFault.TheVariants as replay_fault
 use Rattle.log_judge.specs.Faults.{of_replay}
-use Rattle.log_judge.specs.Judgement.{line_of, names_of_log, Certifies, IsCertified, IsJudgeFault, IsLogFault, IsMisnamed, IsNamedFault, IsNameFault, IsOtherImage, IsPartFault, IsRead}
+use Rattle.log_judge.specs.Judgement.{line_of, names_of_log, IsCertified, IsJudgeFault, IsLogFault, IsMisnamed, IsNamedFault, IsNameFault, IsOtherImage, IsPartFault, IsRead}
 use Rattle.log_judge.specs.Laws.{CertifiedHaveNoFault, OneJudgeFault}
 use Rattle.log_judge.specs.Parting.{PartAt}
 use Rattle.log_judge.specs.declared.fault.JudgeFault.{JudgeFault}

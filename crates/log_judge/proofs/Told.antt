@@ -1,22 +1,17 @@
 -- What each stage says of a log, as what the judge says of it.
-use Rattle.std.proofs.Common.{◌≡◌, ◌≢◌, ◌≤◌, ℕ, List, length, sym, ap, subst}
+use Rattle.std.proofs.Common.{◌≡◌, ℕ, List, sym, subst}
 use Rattle.c_typed.specs.Typed.{ProgramTree}
-use Rattle.g_graph.specs.Plain.{PlainLambda, PlainOmega}
+use Rattle.g_graph.specs.Plain.{PlainOmega}
 use Rattle.g_build_def.specs.Functions.{graph, names}
 use Rattle.g_build_def.specs.Functions as built
 use Rattle.cc_emit_def.specs.Image.{file_of_program}
-use Rattle.cc_source.specs.Accepted.{Accepts, Refuses}
-use Rattle.cc_source.specs.declared.fault.CompileFault.{CompileFault}
-use Rattle.cc_source.specs.declared.fault.CompileFault.TheVariants as source_fault
+use Rattle.cc_source.specs.Accepted.{Accepts}
 use Rattle.cc_source_keeps.specs.Meaning.{KeepsMeaning}
 use Rattle.log_check.specs.Log.{PlainPart}
-use Rattle.log_check.specs.Reading.{IsReadFault}
-use Rattle.log_check.specs.declared.fault.ReadFault.{ReadFault}
-use Rattle.log_check.specs.declared.fault.ReadFault.TheVariants as read_fault
 use Rattle.log_replay.specs.Fault.{IsReplayFault}
 use Rattle.log_replay.specs.declared.fault.ReplayFault.{ReplayFault}
 use Rattle.log_replay.specs.declared.fault.ReplayFault.TheVariants as replay_fault
-use Rattle.log_judge.specs.Faults.{of_reader, of_replay, of_source}
+use Rattle.log_judge.specs.Faults.{of_replay}
 use Rattle.log_judge.specs.Judgement.{names_of_log, Certifies, IsCertified, IsImageOf, IsJudgeFault, IsLogFault, IsMisnamed, IsPartFault, IsRead}
 use Rattle.log_judge.specs.declared.fault.JudgeFault.{JudgeFault}
 use Rattle.log_judge.specs.declared.fault.JudgeFault.TheVariants.{Source, LongLog, BadLine, BadFunction, BadCount, BadStep, OtherImage, NoMemory}
@@ -27,11 +22,6 @@ pub of-replay : (e : ReplayFault) (o : PlainOmega) (log : List PlainPart) (image
 of-replay (replay_fault.BadCount line) o log image h = h
 of-replay (replay_fault.BadStep line) o log image h = h
 of-replay replay_fault.NoMemory o log image h = tt
-
-pub of-reader : (e : ReadFault) (p : ProgramTree) (log image : List ℕ) → IsReadFault e log → IsLogFault (of_reader e) p log image
-of-reader read_fault.LongLog p log image h = h
-of-reader (read_fault.BadLine line) p log image h = h
-of-reader read_fault.NoMemory p log image h = tt
 
 pub of-name : (line : ℕ) (p : ProgramTree) (log image : List ℕ) (functions : List PlainPart) → IsRead log functions → IsMisnamed p functions line →
     IsLogFault (BadFunction line) p log image
@@ -57,13 +47,6 @@ of-log (BadCount line) source log image p accepted h = (p, accepted, h)
 of-log (BadStep line) source log image p accepted h = (p, accepted, h)
 of-log (OtherImage byte) source log image p accepted h = (p, accepted, h)
 of-log NoMemory source log image p accepted h = tt
-
-pub of-source : (e : CompileFault) (source log image : List ℕ) → Refuses e source → IsJudgeFault (of_source e) source log image
-of-source (source_fault.Lex e) source log image h = (λ same. absurd cc, h)
-of-source (source_fault.Parse e) source log image h = (λ same. absurd cc, h)
-of-source (source_fault.Check e) source log image h = (λ same. absurd cc, h)
-of-source (source_fault.Build e) source log image h = (λ same. absurd cc, h)
-of-source source_fault.NoMemory source log image h = tt
 
 -- ---- what is right
 

@@ -44,11 +44,13 @@ fn judge_typed(alloc: Global, typed: &Typed, log: &[u8], image: &[u8]) -> Result
     programs_can_be_emitted();
     log_check::laws::logs_have_few_lines();
     let read = read_log(alloc, log)?;
-    if let Some(line) = first_other_name(typed, &read.functions) {
-        return Err(JudgeFault::BadFunction { line });
+    match first_other_name(typed, &read.functions) {
+        Some(line) => Err(JudgeFault::BadFunction { line }),
+        None => {
+            let omega = graph_of(alloc, typed)?;
+            judge_image(alloc, &omega, &read, image)
+        }
     }
-    let omega = graph_of(alloc, typed)?;
-    judge_image(alloc, &omega, &read, image)
 }
 
 /// Whether a log certifies an image of a source: then the source is accepted, and the image keeps

@@ -1,21 +1,18 @@
-use Rattle.std.proofs.Common.{◌≡◌, ◌<◌, ◌≤◌, ◌+◌, ◌^◌, List, ℕ, length, sym, ap, subst, ◌∙◌, arith}
-use Rattle.std.proofs.lemmas.Result.{err_from_is_err_and, IfErr-weaker, IfOk-weaker}
-use Rattle.g_graph.specs.Lists.{IsComplete}
-use Rattle.g_graph.specs.Plain.{PlainLambda, PlainOmega}
-use Rattle.g_build_def.specs.Functions.{graph}
-use Rattle.g_build_def.specs.Functions as built
-use Rattle.g_pass_def.specs.Kept.{IsKeptBy}
-use Rattle.cc_emit_def.specs.Image.{CanEmit}
-use Rattle.log_check.specs.Log.{line_count, rows_of, PlainPart}
-use Rattle.log_replay.specs.Right.{part_at}
-use Rattle.log_judge.specs.Judgement.{names_of_log, IsImageOf, IsMisnamed, IsPartFault, IsRead}
+use Rattle.std.proofs.Common.{◌≡◌, length, sym, ap, subst, ◌∙◌, arith}
+use Rattle.std.proofs.lemmas.Result.{IfOk-weaker}
+use Rattle.g_graph.specs.Plain.{PlainOmega}
+use Rattle.g_build_def.specs.Functions.{names}
+use Rattle.log_check.specs.Log.{rows_of}
+use Rattle.log_judge.specs.Judgement.{names_of_log, IsCertified, IsImageOf, IsRead}
 use Rattle.log_judge.proofs.Named.{as-many, lines-fit}
-use Rattle.log_judge.proofs.Told.{certified, of-name, of-part, of-reader}
+use Rattle.log_judge.proofs.Told.{certified}
 use Rattle.log_judge.proofs.judging.judge_typed.Goals as goal
 
 pub judge_image-requires-clause-logged : goal.judge_image-requires-clause-logged
 judge_image-requires-clause-logged c =
-    as-many c.args.typed.now c.in_ok-read.read c.in-None.ensures.none ∙ ap (λ (o : PlainOmega). length o.lambdas) (sym c.in_ok-omega.ensures)
+    let p = c.args.typed.now in
+    let named = subst (λ l. names_of_log l ≡ names p) (c.deref.ensures.value ∙ c.read.view_is) c.in-None.ensures.none in
+    as-many p c.in_ok-read.read named ∙ ap (λ (o : PlainOmega). length o.lambdas) (sym c.in_ok-omega-in-None.ensures)
 
 pub judge_image-requires-clause-short : goal.judge_image-requires-clause-short
 judge_image-requires-clause-short c j inside =
@@ -23,4 +20,13 @@ judge_image-requires-clause-short c j inside =
     omega (arith, lines-fit c.in_ok-read.read read.lines j inside, c.logs_have_few_lines.ensures (rows_of c.in_ok-read.read) c.args.log.now read.read, read.short)
 
 pub returns-clause-certified : goal.returns-clause-certified
-returns-clause-certified c = ?
+returns-clause-certified c =
+    let p = c.args.typed.now in
+    let log = c.args.log.now in
+    let image = c.args.image.now in
+    let functions = c.in_ok-read.read in
+    let told = c.in_ok-read.ensures in
+    let read : IsRead log functions = record { short = told.short; text = told.read; lines = told.lines } in
+    let named = subst (λ l. names_of_log l ≡ names p) (c.deref.ensures.value ∙ c.read.view_is) c.in-None.ensures.none in
+    IfOk-weaker c.judge_image.result _ (λ x. IsCertified p log image)
+    (λ x h. certified p log image functions read named (subst (λ o. IsImageOf o functions image) c.in_ok-omega-in-None.ensures h)) c.judge_image.ensures.image
