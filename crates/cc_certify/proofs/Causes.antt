@@ -7,17 +7,14 @@ use Rattle.g_build_def.specs.Functions.{graph}
 use Rattle.g_build_def.specs.Functions as built
 use Rattle.cc_emit_def.specs.Image.{file_of_program}
 use Rattle.cc_io.specs.Files.{Name, FileSet, content}
-use Rattle.cc_outside.specs.Outside.{FilesSeen, Unchanged}
+use Rattle.cc_outside.specs.Outside.{FilesSeen}
 use Rattle.cc_source.specs.Accepted.{Accepts}
 use Rattle.cc_source.specs.declared.fault.CompileFault.{CompileFault}
 use Rattle.cc_refusal.specs.Refusal.{refusal_of}
 use Rattle.cc_refusal.specs.Refused.{outcome_of_refusal}
 use Rattle.cc_refusal.proofs.lemmas.Sources.{refused_of_read}
 use Rattle.cc_report.specs.declared.outcome.Outcome.{Outcome}
-use Rattle.cc_report.specs.declared.outcome.Outcome.TheVariants as outcome
 use Rattle.cc_report.specs.declared.refusal.Refusal.{Refusal}
-use Rattle.cc_report.specs.declared.log_fault.LogFault.{LogFault}
-use Rattle.cc_report.specs.declared.log_fault.LogFault.TheVariants as log_fault
 use Rattle.log_check.specs.Log.{PlainPart}
 use Rattle.log_replay.specs.Right.{AreRight}
 use Rattle.log_judge.specs.Judgement.{IsJudgeFault}

@@ -6,7 +6,7 @@ use Rattle.cc_refusal.specs.Refused.{AcceptedIsNotRefused}
 use Rattle.cc_report.specs.declared.log_fault.LogFault.{LogFault}
 use Rattle.cc_report.specs.declared.outcome.Outcome.{Outcome}
 use Rattle.cc_report.specs.declared.outcome.Outcome.TheVariants.{ReadFault, Refused, NoMemory, Certified, NotCertified}
-use Rattle.log_judge.specs.Judgement.{Certifies, IsJudgeFault}
+use Rattle.log_judge.specs.Judgement.{Certifies}
 use Rattle.log_judge.specs.Laws.{CertifiedHaveNoFault}
 use Rattle.log_judge.specs.declared.fault.JudgeFault.TheVariants as fault
 use Rattle.cc_certify.specs.CheckEnds.{outcome_of, CertifiedIsTold, CheckCause, IsUncertain}

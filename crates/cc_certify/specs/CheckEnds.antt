@@ -1,11 +1,10 @@
 -- How `check` ends: the cause of each outcome, and what the files hold then.
-use Rattle.std.specs.Prelude.{◌≡◌, ◌≤◌, ◌⊎◌, ℕ, List, Option}
+use Rattle.std.specs.Prelude.{◌≡◌, ◌⊎◌, ℕ, List, Option}
 use Rattle.std.specs.Option.{ForSome}
 use Rattle.cc_io.specs.Files.{Name, FileSet, content}
 use Rattle.cc_outside.specs.Outside.{FilesSeen, ReadFails, Unchanged, IfKnown}
 use Rattle.cc_refusal.specs.Refusal.{refusal_of}
 use Rattle.cc_refusal.specs.Refused.{outcome_of_refusal, IsRefused}
-use Rattle.cc_report.specs.declared.log_fault.LogFault.{LogFault}
 use Rattle.cc_report.specs.declared.log_fault.LogFault.TheVariants as log_fault
 use Rattle.cc_report.specs.declared.outcome.Outcome.{Outcome}
 use Rattle.cc_report.specs.declared.outcome.Outcome.TheVariants.{ReadFault, Refused, NoMemory, Certified, NotCertified}

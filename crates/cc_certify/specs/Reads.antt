@@ -1,5 +1,5 @@
 -- What reading leaves of the files.
-use Rattle.std.specs.Prelude.{◌≡◌, ◌≤◌, ◌⊎◌, ℕ, List}
+use Rattle.std.specs.Prelude.{◌≡◌, ◌≤◌, ◌⊎◌}
 use Rattle.cc_io.specs.Files.{Name}
 use Rattle.cc_outside.specs.Outside.{FilesSeen, ReadFails, Unchanged}
 use Rattle.cc_report.specs.declared.outcome.Outcome.{Outcome}
