@@ -2,7 +2,7 @@
 use Rattle.std.proofs.Common.{◌≡◌, ℕ, List, sym, subst}
 use Rattle.c_typed.specs.Typed.{ProgramTree}
 use Rattle.g_graph.specs.Plain.{PlainOmega}
-use Rattle.g_build_def.specs.Functions.{graph, names}
+use Rattle.g_build_def.specs.Functions.{names}
 use Rattle.g_build_def.specs.Functions as built
 use Rattle.cc_emit_def.specs.Image.{file_of_program}
 use Rattle.cc_source.specs.Accepted.{Accepts}
