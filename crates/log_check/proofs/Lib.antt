@@ -1,4 +1,5 @@
 mod LineEnds
+mod LogOrBreak
 mod Maybe
 mod Numbers
 mod OneReading

@@ -45,11 +45,11 @@ rule_by a b =
     if a == 102 then Fold else if a == 99 then Cne else if a == 100 then Dne else if a == 117 then Unroll
     else if a == 112 then (if b == 115 then Push else Pull) else if b == 110 then Inv else if b == 118 then Invert else Inline
 
-rule_at : List ℕ → Rule
+pub rule_at : List ℕ → Rule
 rule_at (a ∷ b ∷ rest) = rule_by a b
 rule_at rest = Fold
 
-named : (r : Rule) → rule_at (rule_name r) ≡ r
+pub named : (r : Rule) → rule_at (rule_name r) ≡ r
 unfolding rule_at rule_by
 named Fold = refl
 named Cne = refl

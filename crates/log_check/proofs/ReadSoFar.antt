@@ -118,7 +118,7 @@ steps-long (s ∷ steps) =
     let some : 0 < length (step_text s) = ends-long (step_line s) in
     omega (arith, some, steps-long steps, length-append (step_text s) (flat_map step_text steps))
 
-row-long : (r : PlainRow) → suc (length r.steps) ≤ length (row_text r)
+pub row-long : (r : PlainRow) → suc (length r.steps) ≤ length (row_text r)
 row-long r =
     let some : 0 < length (head_text r) = ends-long (head_line r) in
     omega (arith, some, steps-long r.steps, length-append (head_text r) (flat_map step_text r.steps))

@@ -1,6 +1,6 @@
 -- Logs as texts: for each function a line with its name and how many values its graph has before and after, and then a
 -- line for each step that was applied to it.
-use Rattle.std.specs.Prelude.{◌≡◌, ◌≢◌, ℕ, suc, ◌+◌, ◌<◌, ◌≤◌, ◌^◌, List, [], ◌∷◌, ◌++◌, length, map, refl}
+use Rattle.std.specs.Prelude.{◌≡◌, ◌≢◌, ℕ, suc, ◌+◌, ◌<◌, ◌≤◌, ◌^◌, ◌⊎◌, List, [], ◌∷◌, ◌++◌, length, map, refl}
 use Rattle.std.specs.List.{AllByRecursion}
 use Rattle.std.specs.Coded.{Coded, code_by, coded×, coded_ℕ, coded_list}
 use Rattle.limits.specs.Limits.{most_name_bytes}
@@ -101,6 +101,10 @@ OneBreak = (bytes : List ℕ) (line other : ℕ) → BreaksAt line bytes → Bre
 -- and at none where they are a log.
 abbrev pub LogsDoNotBreak : Type 0
 LogsDoNotBreak = (rows : List PlainRow) (bytes : List ℕ) (line : ℕ) → IsLogOf rows bytes → BreaksAt line bytes → ⊥
+
+-- Bytes are a log, or they break at a line.
+abbrev pub LogOrBreak : Type 0
+LogOrBreak = (bytes : List ℕ) → ((rows : List PlainRow) × IsLogOf rows bytes) ⊎ ((line : ℕ) × BreaksAt line bytes)
 
 -- A log has no more lines than bytes.
 abbrev pub LogsHaveFewLines : Type 0

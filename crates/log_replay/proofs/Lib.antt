@@ -2,3 +2,4 @@ mod Stops
 mod FirstFaults
 mod Taken
 mod Made
+mod RightOrFaulty

@@ -1,5 +1,5 @@
 -- Laws of logs whose steps are replayed.
-use Rattle.std.specs.Prelude.{◌≡◌, ◌≢◌, List}
+use Rattle.std.specs.Prelude.{◌≡◌, ◌≢◌, ◌⊎◌, List}
 use Rattle.g_graph.specs.Plain.{PlainLambda}
 use Rattle.log_check.specs.Log.{PlainPart}
 use Rattle.log_replay.specs.Right.{AreRight}
@@ -19,3 +19,8 @@ RightHaveNoFault = (ls : List PlainLambda) (log : List PlainPart) (ks : List Pla
 -- and makes one list at most.
 abbrev pub RightAreUnique : Type 0
 RightAreUnique = (ls : List PlainLambda) (log : List PlainPart) (ks js : List PlainLambda) → AreRight ls log ks → AreRight ls log js → ks ≡ js
+
+-- It is right, or it has a fault.
+abbrev pub RightOrFaulty : Type 0
+RightOrFaulty =
+    (ls : List PlainLambda) (log : List PlainPart) → ((ks : List PlainLambda) × AreRight ls log ks) ⊎ ((e : ReplayFault) × (e ≢ NoMemory) × IsReplayFault ls log e)

@@ -1,17 +1,20 @@
 //! Laws of logs whose steps are replayed, each the contract of a function that does nothing.
 
-ghost use Rattle.log_replay.specs.Laws.{OneReplayFault, RightAreUnique, RightHaveNoFault};
+ghost use Rattle.log_replay.specs.Laws.{OneReplayFault, RightAreUnique, RightHaveNoFault, RightOrFaulty};
 
 use g_pass_def::laws::replayed_keep_lists;
 use g_pass_order::laws::orders_are_unique;
+use g_pass_order_laws::laws::orders_exist;
 
-/// A log has one fault at most, out of memory apart, none where it is right, and makes one list of
-/// lambdas at most.
+/// A log is right or has a fault, out of memory apart: never both, and never two. It makes one list
+/// of lambdas at most.
 pub fn faults_are_first()
     ensures one { OneReplayFault }
     ensures none { RightHaveNoFault }
+    ensures some { RightOrFaulty }
     ensures unique { RightAreUnique }
 {
     orders_are_unique();
+    orders_exist();
     replayed_keep_lists();
 }

@@ -1,0 +1,4 @@
+mod Least
+mod Ways
+mod UnitsExist
+mod OrdersExist

@@ -1,0 +1,6 @@
+mod Parting
+mod OneFault
+mod Named
+mod Files
+mod Told
+mod CertifiedOrFaulty

@@ -1,0 +1,4 @@
+pub mod Parting
+pub mod Faults
+pub mod Judgement
+pub mod Laws
