@@ -61,7 +61,7 @@ replaced None = None
 replaced (Some words) = if bytes_eq words.0 (codes "replace") then named (cut 32 words.1) else None
 
 -- the name and the length of the text, where the line is that of a `replace`
-unfoldable pub replace_of : List ℕ → Option (List ℕ × ℕ)
+abbrev pub replace_of : List ℕ → Option (List ℕ × ℕ)
 replace_of line = replaced (cut 32 line)
 
 -- ---- commands

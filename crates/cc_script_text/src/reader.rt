@@ -1,11 +1,6 @@
 //! The reader of a script.
 
-ghost use Rattle.std.specs.Prelude.{◌≡◌, ◌<◌, ◌≤◌, ℕ, suc, List, [], ◌∷◌, None, Some, Err, length, vec_len, IfOk, IfErr, OnOk, OnErr, IsErrOf};
-ghost use Rattle.cc_io.specs.Faults.{HasCause, Increased};
-ghost use Rattle.cc_io.specs.Source.{prepend, IsAtEnd};
-ghost use Rattle.cc_script_text.specs.Script.{cut, first, most_commands, with_line, with_line_end, with_text};
-ghost use Rattle.cc_script_text.specs.Taken.{commands_read, left_of, read_ahead, IsByteTaken, IsFault, IsMoved, TakesCommand};
-ghost use Rattle.cc_script_text.specs.declared.command.Command.{Command};
+ghost use Rattle.std.specs.Prelude.{◌≤◌, length};
 
 use crate::command::Command;
 use crate::fault::ScriptFault;
@@ -39,6 +34,13 @@ pub struct ScriptReader {
 }
 
 impl ScriptReader {
+    ghost use Rattle.std.specs.Prelude.{◌≡◌, ◌<◌, ℕ, suc, List, [], ◌∷◌, ◌++◌, true, false, None, Some, Err, vec_len, IfOk, IfErr, OnOk, OnErr, IsErrOf};
+    ghost use Rattle.cc_io.specs.Faults.{HasCause, Increased};
+    ghost use Rattle.cc_io.specs.Source.{prepend, IsAtEnd};
+    ghost use Rattle.cc_script_text.specs.Script.{cut, first, most_commands, with_line, with_line_end, with_text};
+    ghost use Rattle.cc_script_text.specs.Taken.{commands_read, left_of, read_ahead, IsByteTaken, IsFault, IsMoved, TakesCommand};
+    ghost use Rattle.cc_script_text.specs.declared.command.Command.{Command};
+
     /// A reader that has read nothing.
     pub fn new() -> ScriptReader
         ensures read_ahead { read_ahead result ≡ [] }
@@ -189,7 +191,8 @@ impl ScriptReader {
             if !self.fill(input)? {
                 return Err(self.broken());
             }
-            self.move_ahead(&mut text, length - text.len())?;
+            let most = length - text.len();
+            self.move_ahead(&mut text, most)?;
         }
         Ok(text)
     }

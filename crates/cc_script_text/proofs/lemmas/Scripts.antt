@@ -22,14 +22,15 @@ unfolding script_within
 within-rest zero bytes more whole = refl
 within-rest (suc most) bytes more whole =
     ap (script_by (script_within most)) (first_extends bytes more (λ none. whole (ap (λ f. (script_by (script_within most) f).ending) none)))
-    ∙ by-first (first bytes) whole
+    ∙ by-first (λ rest. within-rest most rest more) (first bytes) whole
   where
-    by-first : (f : First) → (script_by (script_within most) f).ending ≢ with_lack → script_by (script_within most) (extended more f) ≡ script_by (script_within most) f
-    by-first (begins Build rest) some = ap (goes_on Build) (within-rest most rest more some)
-    by-first (begins (Replace name text) rest) some = ap (goes_on (Replace name text)) (within-rest most rest more some)
-    by-first (begins End rest) some = refl
-    by-first broken some = refl
-    by-first lacks some = refl
+    by-first : ((rest : List ℕ) → (script_within most rest).ending ≢ with_lack → script_within most (rest ++ more) ≡ script_within most rest) → (f : First) →
+        (script_by (script_within most) f).ending ≢ with_lack → script_by (script_within most) (extended more f) ≡ script_by (script_within most) f
+    by-first on (begins Build rest) some = ap (goes_on Build) (on rest some)
+    by-first on (begins (Replace name text) rest) some = ap (goes_on (Replace name text)) (on rest some)
+    by-first on (begins End rest) some = refl
+    by-first on broken some = refl
+    by-first on lacks some = refl
 
 pub rest_is_not_read : RestIsNotRead
 rest_is_not_read bytes more whole = within-rest 10000 bytes more whole

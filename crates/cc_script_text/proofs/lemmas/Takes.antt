@@ -1,12 +1,15 @@
--- What was taken in two steps.
-use Rattle.std.proofs.Common.{◌≡◌, ℕ, List, [], ◌++◌, Option, Some, ap, sym, ◌∙◌, inl, inr, append-nil}
+-- What was taken in several steps.
+use Rattle.std.proofs.Common.{◌≡◌, ◌≤◌, ℕ, List, [], ◌∷◌, ◌++◌, length, take, drop, Option, None, Some, ap, sym, ◌∙◌, inl, inr}
+use Rattle.std.proofs.Math.Seq.{take-append_seam, drop-append_seam}
+use Rattle.std.proofs.Math.ListN.{drop_of_length-le}
 use Rattle.cc_io.specs.Source.{prepend}
 use Rattle.cc_io.proofs.lemmas.Prepends.{prepend-twice}
 use Rattle.cc_script_text.specs.declared.command.Command.{Command}
 use Rattle.cc_script_text.specs.declared.fault.ScriptFault.{ScriptFault}
 use Rattle.cc_script_text.specs.declared.fault.ScriptFault.TheVariants.{Broken, Failed, NoMemory}
-use Rattle.cc_script_text.specs.Script.{First, begins, first}
-use Rattle.cc_script_text.specs.Taken.{TakesCommand, TakesPart, TakesBroken, IsFault}
+use Rattle.cc_script_text.specs.declared.command.Command.TheVariants.{Replace}
+use Rattle.cc_script_text.specs.Script.{First, begins, lacks, first, with_line_end, with_text}
+use Rattle.cc_script_text.specs.Taken.{TakesCommand, TakesPart, TakesBroken, IsFault, IsMoved}
 use Rattle.cc_script_text.proofs.lemmas.Scripts.{commands_stand}
 
 module _ (says onward : List ℕ → First) (front : List ℕ) (before mid after : Option (List ℕ)) (goes : (rest : List ℕ) → says (front ++ rest) ≡ onward rest) (taken : before ≡ prepend front mid) where
@@ -33,3 +36,23 @@ pub taken_is_first : (command : Command) (bytes rest : List ℕ) → TakesComman
 taken_is_first command bytes rest t =
     let whole : bytes ≡ t.bytes ++ rest = cc (t.taken) in
     ap first whole ∙ commands_stand command t.bytes [] rest t.said
+
+-- ---- texts
+
+-- bytes that are not more than the text are no whole `replace`
+pub text_lacks : (name : List ℕ) (count : ℕ) (bytes : List ℕ) → length bytes ≤ count → with_text (Some (name, count)) bytes ≡ lacks
+text_lacks name count bytes few = ap (with_line_end (Replace name (take count bytes))) (drop_of_length-le bytes few)
+
+pub text_whole : (name text rest : List ℕ) → with_text (Some (name, length text)) (text ++ rest) ≡ with_line_end (Replace name text) rest
+text_whole name text rest =
+    ap (λ t. with_line_end (Replace name t) (drop (length text) (text ++ rest))) (take-append_seam text rest)
+    ∙ ap (with_line_end (Replace name text)) (drop-append_seam text rest)
+
+-- bytes that move from what was read ahead to the text
+pub moved_on : (before left : Option (List ℕ)) (most : ℕ) (text text' ahead ahead' : List ℕ) → before ≡ prepend text (prepend ahead left) → IsMoved most text text' ahead ahead' →
+    before ≡ prepend text' (prepend ahead' left)
+moved_on before left most text text' ahead ahead' e m =
+    e
+    ∙ (ap (λ t. prepend text (prepend t left)) m.from_front
+    ∙ (ap (prepend text) (sym (prepend-twice m.moved ahead' left))
+    ∙ (prepend-twice text m.moved (prepend ahead' left) ∙ ap (λ t. prepend t (prepend ahead' left)) (sym m.to_text))))
