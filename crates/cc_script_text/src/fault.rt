@@ -21,14 +21,6 @@ pub enum ScriptFault {
     NoMemory,
 }
 
-impl From<cc_io::Failed> for ScriptFault {
-    ghost from_gives = { λ _ e. e ≡ fault.Failed };
-
-    fn from(_: cc_io::Failed) -> ScriptFault {
-        ScriptFault::Failed
-    }
-}
-
 impl From<AllocError> for ScriptFault {
     ghost from_gives = { λ _ e. e ≡ fault.NoMemory };
 

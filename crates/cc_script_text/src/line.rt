@@ -98,8 +98,8 @@ fn named(words: &[u8]) -> Option<(&[u8], usize)>
     if !is_name(name) {
         return None;
     }
-    let length = length_of(digits)?;
-    Some((name, length))
+    let count = length_of(digits)?;
+    Some((name, count))
 }
 
 /// The name and the length of the text, where the line is that of a `replace`.

@@ -118,8 +118,10 @@ impl ScriptReader {
     {
         let mut line = ArrayVec::new();
         loop {
-            let Some(byte) = self.next_byte(input)? else {
-                return Err(self.broken());
+            let byte = match self.next_byte(input) {
+                Ok(Some(byte)) => byte,
+                Ok(None) => return Err(self.broken()),
+                Err(_) => return Err(ScriptFault::Failed),
             };
             if byte == b'\n' {
                 return Ok(line);
@@ -144,9 +146,10 @@ impl ScriptReader {
         ensures faults { I.faults input.old ≤ I.faults input.new }
         ensures count { self.new.count ≡ self.old.count }
     {
-        match self.next_byte(input)? {
-            Some(b'\n') => Ok(()),
-            _ => Err(self.broken()),
+        match self.next_byte(input) {
+            Ok(Some(b'\n')) => Ok(()),
+            Ok(_) => Err(self.broken()),
+            Err(_) => Err(ScriptFault::Failed),
         }
     }
 
@@ -167,18 +170,18 @@ impl ScriptReader {
         Ok(())
     }
 
-    // The next bytes, as many as `length`.
+    // The next bytes, as many as `count`.
     fn take_text<I: Source>(
         &mut self,
         alloc: Global,
         input: &mut I,
-        length: usize,
+        count: usize,
     ) -> Result<Vec<u8>, ScriptFault>
         ensures taken { IfOk result (λ text. (left_of self.old (I.left input.old))
             ≡ prepend text.items (left_of self.new (I.left input.new))) }
-        ensures length { IfOk result (λ text. vec_len text ≡ length) }
+        ensures length { IfOk result (λ text. vec_len text ≡ count) }
         ensures fault { IfErr result (λ e. (name : List ℕ)
-            → IsFault (with_text (Some (name, length))) e (suc (commands_read self.old))
+            → IsFault (with_text (Some (name, count))) e (suc (commands_read self.old))
             (left_of self.old (I.left input.old)) (left_of self.new (I.left input.new))) }
         ensures ahead { IsErrOf result ScriptFault.Failed → read_ahead self.new ≡ [] }
         ensures cause { IsErrOf result ScriptFault.Failed
@@ -187,14 +190,48 @@ impl ScriptReader {
         ensures count { self.new.count ≡ self.old.count }
     {
         let mut text = Vec::new(alloc);
-        while text.len() < length {
-            if !self.fill(input)? {
-                return Err(self.broken());
+        while text.len() < count {
+            match self.fill(input) {
+                Ok(true) => {}
+                Ok(false) => return Err(self.broken()),
+                Err(_) => return Err(ScriptFault::Failed),
             }
-            let most = length - text.len();
+            let most = count - text.len();
             self.move_ahead(&mut text, most)?;
         }
         Ok(text)
+    }
+
+    // The `replace` of this name and text, which were taken.
+    fn end_replace<I: Source>(
+        &mut self,
+        alloc: Global,
+        input: &mut I,
+        name: &[u8],
+        text: Vec<u8>,
+    ) -> Result<Command, ScriptFault>
+        ensures command { IfOk result (λ command.
+            TakesCommand (with_line_end (Command.Replace name.now text.items)) command
+            (left_of self.old (I.left input.old)) (left_of self.new (I.left input.new))) }
+        ensures fault { IfErr result (λ e.
+            IsFault (with_line_end (Command.Replace name.now text.items)) e
+            (suc (commands_read self.old))
+            (left_of self.old (I.left input.old)) (left_of self.new (I.left input.new))) }
+        ensures ahead { IsErrOf result ScriptFault.Failed → read_ahead self.new ≡ [] }
+        ensures cause { IsErrOf result ScriptFault.Failed
+            → Increased (I.faults input.old) (I.faults input.new) }
+        ensures faults { I.faults input.old ≤ I.faults input.new }
+        ensures count { self.new.count ≡ self.old.count }
+    {
+        if let Err(fault) = self.take_line_end(input) {
+            drop(text);
+            return Err(fault);
+        }
+        let name = Name::from_slice(alloc, name)?;
+        Ok(Command::Replace {
+            name,
+            text: Bytes::from_vec(text),
+        })
     }
 
     // The `replace` of this name, of which the line was taken.
@@ -203,12 +240,12 @@ impl ScriptReader {
         alloc: Global,
         input: &mut I,
         name: &[u8],
-        length: usize,
+        count: usize,
     ) -> Result<Command, ScriptFault>
-        ensures command { IfOk result (λ command. TakesCommand (with_text (Some (name.now, length)))
+        ensures command { IfOk result (λ command. TakesCommand (with_text (Some (name.now, count)))
             command (left_of self.old (I.left input.old)) (left_of self.new (I.left input.new))) }
         ensures fault { IfErr result (λ e.
-            IsFault (with_text (Some (name.now, length))) e (suc (commands_read self.old))
+            IsFault (with_text (Some (name.now, count))) e (suc (commands_read self.old))
             (left_of self.old (I.left input.old)) (left_of self.new (I.left input.new))) }
         ensures ahead { IsErrOf result ScriptFault.Failed → read_ahead self.new ≡ [] }
         ensures cause { IsErrOf result ScriptFault.Failed
@@ -216,13 +253,8 @@ impl ScriptReader {
         ensures faults { I.faults input.old ≤ I.faults input.new }
         ensures count { self.new.count ≡ self.old.count }
     {
-        let text = self.take_text(alloc, input, length)?;
-        self.take_line_end(input)?;
-        let name = Name::from_slice(alloc, name)?;
-        Ok(Command::Replace {
-            name,
-            text: Bytes::from_vec(text),
-        })
+        let text = self.take_text(alloc, input, count)?;
+        self.end_replace(alloc, input, name, text)
     }
 
     // The command of this line, which was taken.
@@ -249,10 +281,10 @@ impl ScriptReader {
         if line == b"end".as_slice() {
             return Ok(Command::End);
         }
-        let Some((name, length)) = replace_of(line) else {
+        let Some((name, count)) = replace_of(line) else {
             return Err(self.broken());
         };
-        self.take_replace(alloc, input, name, length)
+        self.take_replace(alloc, input, name, count)
     }
 
     // The next command, whatever its number.

@@ -26,6 +26,25 @@ pub first_long : (bytes : List ℕ) → cut 10 bytes ≡ None → 100 < length b
 unfolding first
 first_long bytes none long = ap (λ o. with_parts o bytes) none ∙ cond-false (leb (length bytes) 100) lacks broken (lt-leb (length bytes) 100 long)
 
+-- ---- by the words of a line
+
+pub line_build : (line rest : List ℕ) → bytes_eq line (codes "build") ≡ true → with_line line rest ≡ begins Build rest
+unfolding with_line
+line_build line rest e = cond-true (bytes_eq line (codes "build")) (begins Build rest) (cond (bytes_eq line (codes "end")) (begins End rest) (with_text (replace_of line) rest)) e
+
+module _ (line : List ℕ) (not-build : bytes_eq line (codes "build") ≡ false) where
+  pub line_end : (rest : List ℕ) → bytes_eq line (codes "end") ≡ true → with_line line rest ≡ begins End rest
+  unfolding with_line
+  line_end rest e =
+      cond-false (bytes_eq line (codes "build")) (begins Build rest) (cond (bytes_eq line (codes "end")) (begins End rest) (with_text (replace_of line) rest)) not-build
+      ∙ cond-true (bytes_eq line (codes "end")) (begins End rest) (with_text (replace_of line) rest) e
+
+  pub line_other : (said : Option (List ℕ × ℕ)) (rest : List ℕ) → bytes_eq line (codes "end") ≡ false → replace_of line ≡ said → with_line line rest ≡ with_text said rest
+  unfolding with_line
+  line_other said rest e is =
+      cond-false (bytes_eq line (codes "build")) (begins Build rest) (cond (bytes_eq line (codes "end")) (begins End rest) (with_text (replace_of line) rest)) not-build
+      ∙ (cond-false (bytes_eq line (codes "end")) (begins End rest) (with_text (replace_of line) rest) e ∙ ap (λ o. with_text o rest) is)
+
 -- ---- with more bytes after them
 
 abbrev pub extended : List ℕ → First → First

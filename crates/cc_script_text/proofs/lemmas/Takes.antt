@@ -1,15 +1,18 @@
 -- What was taken in several steps.
-use Rattle.std.proofs.Common.{◌≡◌, ◌≤◌, ℕ, List, [], ◌∷◌, ◌++◌, length, take, drop, Option, None, Some, ap, sym, ◌∙◌, inl, inr}
+use Rattle.std.proofs.Common.{◌≡◌, ◌≢◌, ◌⊎◌, ◌<◌, ◌≤◌, ◌-◌, ℕ, suc, List, [], ◌∷◌, ◌++◌, length, take, drop, get_or, Option, None, Some, Result, Ok, Err, IfOk, IfErr, ap, sym, subst, ◌∙◌, inl, inr, drop-cons, length-append, arith}
+use Rattle.std.specs.List.{slice_range}
 use Rattle.std.proofs.Math.Seq.{take-append_seam, drop-append_seam}
 use Rattle.std.proofs.Math.ListN.{drop_of_length-le}
-use Rattle.cc_io.specs.Source.{prepend}
+use Rattle.cc_io.specs.Source.{prepend, IsAtEnd}
 use Rattle.cc_io.proofs.lemmas.Prepends.{prepend-twice}
 use Rattle.cc_script_text.specs.declared.command.Command.{Command}
 use Rattle.cc_script_text.specs.declared.fault.ScriptFault.{ScriptFault}
 use Rattle.cc_script_text.specs.declared.fault.ScriptFault.TheVariants.{Broken, Failed, NoMemory}
 use Rattle.cc_script_text.specs.declared.command.Command.TheVariants.{Replace}
-use Rattle.cc_script_text.specs.Script.{First, begins, lacks, first, with_line_end, with_text}
+use Rattle.cc_script_text.specs.Script.{cut, First, begins, lacks, first, with_line_end, with_text}
 use Rattle.cc_script_text.specs.Taken.{TakesCommand, TakesPart, TakesBroken, IsFault, IsMoved}
+use Rattle.cc_script_text.proofs.lemmas.Cuts.{cut_push}
+use Rattle.cc_script_text.proofs.lemmas.Firsts.{first_lacks, first_long}
 use Rattle.cc_script_text.proofs.lemmas.Scripts.{commands_stand}
 
 module _ (says onward : List ℕ → First) (front : List ℕ) (before mid after : Option (List ℕ)) (goes : (rest : List ℕ) → says (front ++ rest) ≡ onward rest) (taken : before ≡ prepend front mid) where
@@ -30,6 +33,19 @@ module _ (says onward : List ℕ → First) (front : List ℕ) (before mid after
   fault_after (Broken at) number (same, inr (t, end)) = (same, inr (part_after t, end))
   fault_after Failed number t = part_after t
   fault_after NoMemory number t = (front ++ t.0, both t.0 t.1)
+
+  pub commands_after : (r : Result Command ScriptFault) → IfOk r (λ command. TakesCommand onward command mid after) → IfOk r (λ command. TakesCommand says command before after)
+  commands_after (Ok command) t = command_after command t
+  commands_after (Err e) t = tt
+
+  pub faults_after : (n n' : ℕ) → n' ≡ n → (r : Result Command ScriptFault) → IfErr r (λ e. IsFault onward e (suc n') mid after) → IfErr r (λ e. IsFault says e (suc n) before after)
+  faults_after n n' same (Ok command) t = tt
+  faults_after n n' same (Err e) t = subst (λ m. IsFault says e (suc m) before after) same (fault_after e (suc n') t)
+
+-- the fault of what is no command
+pub broken_fault : (says : List ℕ → First) (e : ScriptFault) (n m : ℕ) (before after : Option (List ℕ)) → e ≡ Broken (suc n) → n ≡ m
+    → TakesBroken says before after ⊎ (TakesPart says before after × IsAtEnd after) → IsFault says e (suc m) before after
+broken_fault says e n m before after is same h = subst (λ x. IsFault says x (suc m) before after) (sym is) (ap suc same, h)
 
 -- where it is known what is left, it begins with the command that is taken
 pub taken_is_first : (command : Command) (bytes rest : List ℕ) → TakesCommand first command (Some bytes) (Some rest) → first bytes ≡ begins command rest
@@ -56,3 +72,27 @@ moved_on before left most text text' ahead ahead' e m =
     ∙ (ap (λ t. prepend text (prepend t left)) m.from_front
     ∙ (ap (prepend text) (sym (prepend-twice m.moved ahead' left))
     ∙ (prepend-twice text m.moved (prepend ahead' left) ∙ ap (λ t. prepend t (prepend ahead' left)) (sym m.to_text))))
+
+-- ---- one byte
+
+pub range_first : (bytes : List ℕ) (at end : ℕ) → at < end → end ≤ length bytes → take 1 (slice_range bytes at end) ≡ get_or bytes at 0 ∷ []
+range_first bytes at end some within =
+    let low : at < length bytes = omega (arith, some, within) in
+    let one : end - at ≡ suc (end - at - 1) = omega (arith, some) in
+    ap (λ n. take 1 (take n (drop at bytes))) one ∙ ap (λ t. take 1 (take (suc (end - at - 1)) t)) (drop-cons bytes at 0 low)
+
+-- ---- lines
+
+pub line_part : (before after : Option (List ℕ)) (line : List ℕ) → before ≡ prepend line after → cut 10 line ≡ None → length line ≤ 100 → TakesPart first before after
+line_part before after line e none few = record { bytes = line; taken = e; said = first_lacks line none few }
+
+pub line_pushed : (before mid after : Option (List ℕ)) (line : List ℕ) (b : ℕ) → before ≡ prepend line mid → mid ≡ prepend (b ∷ []) after → before ≡ prepend (line ++ b ∷ []) after
+line_pushed before mid after line b e f = e ∙ (ap (prepend line) f ∙ prepend-twice line (b ∷ []) after)
+
+pub line_long : (before mid after : Option (List ℕ)) (line : List ℕ) (b : ℕ) → before ≡ prepend line mid → mid ≡ prepend (b ∷ []) after → cut 10 line ≡ None → b ≢ 10 → 100 ≤ length line
+    → TakesBroken first before after
+line_long before mid after line b e f none other long = record {
+  bytes = line ++ b ∷ [];
+  taken = line_pushed before mid after line b e f;
+  said = first_long (line ++ b ∷ []) (cut_push 10 line b none other) (omega (arith, long, length-append line (b ∷ [])));
+}

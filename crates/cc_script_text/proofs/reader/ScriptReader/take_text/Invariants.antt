@@ -7,10 +7,10 @@ use Rattle.cc_script_text.proofs.reader.ScriptReader.take_text.Given as goal
 abbrev pub invariant-loop-self : goal.invariant-loop-self
 invariant-loop-self g l = record {
   taken : left_of l.initial.self (g.I.Source.left l.initial.input) ≡ prepend l.text.items (left_of l.self (g.I.Source.left l.input));
-  within : vec_len l.text ≤ l.length;
+  within : vec_len l.text ≤ l.count;
   faults : g.I.Source.faults l.initial.input ≤ g.I.Source.faults l.input;
   count : l.self.count ≡ l.initial.self.count;
 }
 
 abbrev pub decreases-loop-self : goal.decreases-loop-self
-decreases-loop-self g l = l.length - vec_len l.text
+decreases-loop-self g l = l.count - vec_len l.text
