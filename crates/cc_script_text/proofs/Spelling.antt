@@ -1,6 +1,6 @@
 -- Bytes begin with a command exactly where they begin with how it is written.
 use Rattle.std.specs.Prelude.{codes, option_map}
-use Rattle.std.proofs.Common.{◌≡◌, ◌<◌, ◌≤◌, ◌+◌, ◌-◌, ℕ, Bool, true, false, ◌&&◌, ◌||◌, List, [], ◌∷◌, ◌++◌, length, take, drop, Option, None, Some, cond, eqb, leb, refl, sym, ap, subst, ◌∙◌, append_assoc, length-append, length-drop, arith}
+use Rattle.std.proofs.Common.{◌≡◌, ◌≤◌, ◌+◌, ◌-◌, ℕ, Bool, true, false, ◌&&◌, ◌||◌, List, [], ◌∷◌, ◌++◌, length, take, drop, Option, None, Some, cond, eqb, leb, refl, sym, ap, subst, ◌∙◌, append_assoc, length-append, length-drop, arith}
 use Rattle.std.specs.List.{list_all}
 use Rattle.std.specs.Str.{bytes_eq}
 use Rattle.std.proofs.lemmas.Bool.{cond-true, and_parts, and_from, le-leb, leb-true, eqb-true}
@@ -12,7 +12,7 @@ use Rattle.cc_script_text.specs.declared.command.Command.{Command}
 use Rattle.cc_script_text.specs.declared.command.Command.TheVariants.{Build, Replace, End}
 use Rattle.cc_script_text.specs.Laws.{CommandsAreSpelled}
 use Rattle.cc_script_text.specs.Script.{cut, is_identifier, is_name, are_digits, decimal_value, length_of, named, replaced, replace_of}
-use Rattle.cc_script_text.specs.Script.{First, begins, broken, lacks, with_line_end, with_text, with_line, with_parts, first}
+use Rattle.cc_script_text.specs.Script.{begins, broken, lacks, with_line_end, with_text, with_line, with_parts, first}
 use Rattle.cc_script_text.specs.Spelled.{IsName, IsLength, Spells, replace_text}
 use Rattle.cc_script_text.proofs.lemmas.Cuts.{HasNo, has_no_append, has_no_of, IsCut, cut_is, cut_line, cut_none}
 use Rattle.cc_script_text.proofs.lemmas.Firsts.{first_line, line_other}

@@ -1,8 +1,8 @@
 -- Known scripts, and what they say.
-use Rattle.std.specs.Prelude.{◌≡◌, ℕ, List, [], ◌∷◌, ◌++◌, Option, None, Some, codes, replicate}
-use Rattle.cc_script_text.specs.Script.{Script, Ending, First, with_end, with_broken, with_lack, begins, broken, lacks, first, script_within, broken_number}
+use Rattle.std.specs.Prelude.{◌≡◌, ℕ, List, [], ◌∷◌, ◌++◌, Option, Some, codes, replicate}
+use Rattle.cc_script_text.specs.Script.{Script, Ending, with_end, with_broken, with_lack, begins, broken, lacks, first, script_within, broken_number}
 use Rattle.cc_script_text.specs.declared.command.Command.{Command}
-use Rattle.cc_script_text.specs.declared.command.Command.TheVariants.{Build, Replace, End}
+use Rattle.cc_script_text.specs.declared.command.Command.TheVariants.{Build, Replace}
 
 -- the commands of the bytes, of which there may be 4, and how they end
 abbrev pub says : List Command → Ending → Script

@@ -1,14 +1,14 @@
 -- What bytes begin with, by their first line, and with more bytes after them.
-use Rattle.std.proofs.Common.{◌≡◌, ◌≢◌, ◌⊎◌, ◌<◌, ◌≤◌, ◌+◌, ℕ, Bool, true, false, List, [], ◌∷◌, ◌++◌, length, take, drop, Option, None, Some, cond, eqb, leb, refl, sym, ap, subst, ◌∙◌, inl, inr, append_assoc, length-append, arith}
+use Rattle.std.proofs.Common.{◌≡◌, ◌≢◌, ◌⊎◌, ◌<◌, ◌≤◌, ℕ, Bool, true, false, List, [], ◌∷◌, ◌++◌, length, take, drop, Option, None, Some, cond, eqb, leb, refl, sym, ap, ◌∙◌, inl, inr, append_assoc, length-append, arith}
 use Rattle.std.specs.Prelude.{option_map, codes}
 use Rattle.std.specs.Str.{bytes_eq}
-use Rattle.std.proofs.lemmas.Bool.{cond-true, cond-false, le-leb, lt-leb, leb-false, cases_lt}
+use Rattle.std.proofs.lemmas.Bool.{cond-true, cond-false, le-leb, lt-leb, cases_lt}
 use Rattle.std.proofs.lemmas.List.{take-append-le, drop-append-le}
 use Rattle.std.proofs.Math.ListN.{drop_of_length-le}
 use Rattle.cc_script_text.specs.declared.command.Command.{Command}
 use Rattle.cc_script_text.specs.declared.command.Command.TheVariants.{Build, Replace, End}
 use Rattle.cc_script_text.specs.Script.{cut, replace_of, First, begins, broken, lacks, with_line_end, with_text, with_line, with_parts, first}
-use Rattle.cc_script_text.proofs.lemmas.Cuts.{HasNo, IsCut, cut_is, cut_line, cut_further, has_no_of}
+use Rattle.cc_script_text.proofs.lemmas.Cuts.{IsCut, cut_is, cut_line, cut_further, has_no_of}
 
 -- ---- by the first line
 

@@ -1,8 +1,7 @@
 -- What bytes say as a script, command by command.
-use Rattle.std.proofs.Common.{◌≡◌, ◌≢◌, ℕ, zero, suc, List, ◌∷◌, ◌++◌, refl, ap, ◌∙◌}
-use Rattle.cc_script_text.specs.declared.command.Command.{Command}
+use Rattle.std.proofs.Common.{◌≡◌, ◌≢◌, ℕ, zero, suc, List, ◌++◌, refl, ap, ◌∙◌}
 use Rattle.cc_script_text.specs.declared.command.Command.TheVariants.{Build, Replace, End}
-use Rattle.cc_script_text.specs.Script.{First, begins, broken, lacks, first, Script, with_lack, goes_on, stops, script_by, script_within, script}
+use Rattle.cc_script_text.specs.Script.{First, begins, broken, lacks, first, with_lack, goes_on, script_by, script_within}
 use Rattle.cc_script_text.specs.Laws.{CommandsStand, BreaksStand, RestIsNotRead}
 use Rattle.cc_script_text.proofs.lemmas.Firsts.{extended, first_extends}
 

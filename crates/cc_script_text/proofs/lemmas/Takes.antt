@@ -83,8 +83,9 @@ range_first bytes at end some within =
 
 -- ---- lines
 
-pub line_part : (before after : Option (List ℕ)) (line : List ℕ) → before ≡ prepend line after → cut 10 line ≡ None → length line ≤ 100 → TakesPart first before after
-line_part before after line e none few = record { bytes = line; taken = e; said = first_lacks line none few }
+-- a line of which no more was taken
+pub line_part : (before mid after : Option (List ℕ)) (line : List ℕ) → before ≡ prepend line mid → after ≡ mid → cut 10 line ≡ None → length line ≤ 100 → TakesPart first before after
+line_part before mid after line e same none few = record { bytes = line; taken = e ∙ ap (prepend line) (sym same); said = first_lacks line none few }
 
 pub line_pushed : (before mid after : Option (List ℕ)) (line : List ℕ) (b : ℕ) → before ≡ prepend line mid → mid ≡ prepend (b ∷ []) after → before ≡ prepend (line ++ b ∷ []) after
 line_pushed before mid after line b e f = e ∙ (ap (prepend line) f ∙ prepend-twice line (b ∷ []) after)

@@ -1,4 +1,4 @@
-use Rattle.std.proofs.Common.{[], None, Some, refl, inl, ap, sym, ◌∙◌, rules}
+use Rattle.std.proofs.Common.{[], None, Some, refl, inl, ap, sym, ◌∙◌}
 use Rattle.std.specs.Str.{bytes_eq}
 use Rattle.cc_io.proofs.lemmas.Prepends.{prepend-none}
 use Rattle.cc_script_text.specs.Script.{with_line, with_text}
@@ -25,7 +25,7 @@ pub returns-in_default-clause-fault : goal.returns-in_default-clause-fault
 returns-in_default-clause-fault g c =
     let left = left_of c.args.self.now (g.I.Source.left c.args.input.now) in
     broken_fault (with_line c.args.line.now) c.broken.result c.args.self.now.count c.args.self.now.count left left c.broken.ensures refl
-    (inl (record { bytes = []; taken = prepend-none left; said = line_other c.args.line.now (ap (bytes_eq c.args.line.now) (sym c.as_slice.ensures) ∙ (sym c.eq.ensures ∙ c.if-eq.false)) None [] (ap (bytes_eq c.args.line.now) (sym c.as_slice-2.ensures) ∙ (sym c.eq-2.ensures ∙ c.if-eq-2.false)) (first_of (sym c.in_default.ensures, search rules)) }))
+    (inl (record { bytes = []; taken = prepend-none left; said = line_other c.args.line.now (ap (bytes_eq c.args.line.now) (sym c.as_slice.ensures) ∙ (sym c.eq.ensures ∙ c.if-eq.false)) None [] (ap (bytes_eq c.args.line.now) (sym c.as_slice-2.ensures) ∙ (sym c.eq-2.ensures ∙ c.if-eq-2.false)) (sym c.in_default.ensures) }))
 
 pub returns-clause-command : goal.returns-clause-command
 returns-clause-command g c =
@@ -33,7 +33,7 @@ returns-clause-command g c =
     commands_after (with_line c.args.line.now) (with_text (Some (c.in-Some.name.now, c.in-Some.count))) [] left left
     (left_of c.take_replace.new.self (g.I.Source.left c.take_replace.new.input))
     (λ rest. line_other c.args.line.now (ap (bytes_eq c.args.line.now) (sym c.as_slice.ensures) ∙ (sym c.eq.ensures ∙ c.if-eq.false)) (Some (c.in-Some.name.now, c.in-Some.count)) rest (ap (bytes_eq c.args.line.now) (sym c.as_slice-2.ensures) ∙ (sym c.eq-2.ensures ∙ c.if-eq-2.false))
-    (first_of (sym c.in-Some.ensures, search rules))) (prepend-none left) c.take_replace.result c.take_replace.ensures.command
+    (sym c.in-Some.ensures)) (prepend-none left) c.take_replace.result c.take_replace.ensures.command
 
 pub returns-clause-fault : goal.returns-clause-fault
 returns-clause-fault g c =
@@ -41,4 +41,4 @@ returns-clause-fault g c =
     faults_after (with_line c.args.line.now) (with_text (Some (c.in-Some.name.now, c.in-Some.count))) [] left left
     (left_of c.take_replace.new.self (g.I.Source.left c.take_replace.new.input))
     (λ rest. line_other c.args.line.now (ap (bytes_eq c.args.line.now) (sym c.as_slice.ensures) ∙ (sym c.eq.ensures ∙ c.if-eq.false)) (Some (c.in-Some.name.now, c.in-Some.count)) rest (ap (bytes_eq c.args.line.now) (sym c.as_slice-2.ensures) ∙ (sym c.eq-2.ensures ∙ c.if-eq-2.false))
-    (first_of (sym c.in-Some.ensures, search rules))) (prepend-none left) c.args.self.now.count c.args.self.now.count refl c.take_replace.result c.take_replace.ensures.fault
+    (sym c.in-Some.ensures)) (prepend-none left) c.args.self.now.count c.args.self.now.count refl c.take_replace.result c.take_replace.ensures.fault

@@ -12,20 +12,22 @@ returns-in-Ok-None-clause-fault g c =
     let read = rw c.in-Ok-None.field-0-is at c.in-Ok-None.ensures.taken in
     let left = g.I.Source.left in
     let before = left_of c.args.self.now (left c.args.input.now) in
+    let mid = left_of c.loop-byte.self (left c.loop-byte.input) in
     let after = left_of c.next_byte.new.self (left c.next_byte.new.input) in
     let line = c.loop-byte.line.items in
     let inv = c.loop-byte.invariant in
     broken_fault first c.broken.result c.next_byte.new.self.count c.args.self.now.count before after c.broken.ensures (c.next_byte.ensures.count ∙ inv.count)
-    (inr (line_part before after line (inv.taken ∙ ap (prepend line) (sym read.0)) inv.one inv.few, read.1))
+    (inr (line_part before mid after line inv.taken read.0 inv.one inv.few, read.1))
 
 pub returns-in-Err-clause-fault : goal.returns-in-Err-clause-fault
 returns-in-Err-clause-fault g c =
     let left = g.I.Source.left in
     let before = left_of c.args.self.now (left c.args.input.now) in
+    let mid = left_of c.loop-byte.self (left c.loop-byte.input) in
     let after = left_of c.next_byte.new.self (left c.next_byte.new.input) in
     let line = c.loop-byte.line.items in
     let inv = c.loop-byte.invariant in
-    line_part before after line (inv.taken ∙ ap (prepend line) (sym c.in-Err.ensures.err)) inv.one inv.few
+    line_part before mid after line inv.taken c.in-Err.ensures.err inv.one inv.few
 
 pub returns-then-is_full-clause-fault : goal.returns-then-is_full-clause-fault
 returns-then-is_full-clause-fault g c =
