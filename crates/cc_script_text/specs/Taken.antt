@@ -1,5 +1,5 @@
 -- What a reader of a script takes of what is left of it.
-use Rattle.std.specs.Prelude.{◌≡◌, ◌⊎◌, ◌≤◌, ◌<◌, ℕ, List, [], ◌∷◌, ◌++◌, length, Option, None, Some}
+use Rattle.std.specs.Prelude.{◌≡◌, ◌⊎◌, ◌≤◌, ◌<◌, ℕ, List, [], ◌∷◌, ◌++◌, length, Option, None, Some, Result, Ok, Err}
 use Rattle.std.specs.List.{slice_range}
 use Rattle.cc_io.specs.Source.{prepend, IsAtEnd}
 use Rattle.cc_script_text.specs.Script.{First, begins, broken, lacks}
@@ -24,6 +24,12 @@ left_of reader left = prepend (read_ahead reader) left
 abbrev pub IsByteTaken : Option ℕ → (before after : Option (List ℕ)) → Type 0
 IsByteTaken (Some byte) before after = before ≡ prepend (byte ∷ []) after
 IsByteTaken None before after = (after ≡ before) × IsAtEnd after
+
+-- The next byte was there, and is taken of what was read ahead.
+abbrev pub IsByteAhead : {E : Type 0} → Result (Option ℕ) E → (ahead ahead' : List ℕ) → Type 0
+IsByteAhead (Ok (Some byte)) ahead ahead' = ahead ≡ byte ∷ ahead'
+IsByteAhead (Ok None) ahead ahead' = ⊥
+IsByteAhead (Err e) ahead ahead' = ⊥
 
 -- Some bytes, no more than this many, went from the front of what was read ahead to the end of a text.
 pub record IsMoved (most : ℕ) (text text' ahead ahead' : List ℕ) : Type 0 where

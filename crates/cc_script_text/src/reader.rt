@@ -34,11 +34,11 @@ pub struct ScriptReader {
 }
 
 impl ScriptReader {
-    ghost use Rattle.std.specs.Prelude.{◌≡◌, ◌<◌, ℕ, suc, List, [], ◌∷◌, ◌++◌, true, false, None, Some, Err, vec_len, IfOk, IfErr, OnOk, OnErr, IsErrOf};
+    ghost use Rattle.std.specs.Prelude.{◌≡◌, ◌≢◌, ◌<◌, ℕ, suc, List, [], ◌∷◌, ◌++◌, true, false, None, Some, Ok, Err, vec_len, IfOk, IfErr, OnOk, OnErr, IsErrOf};
     ghost use Rattle.cc_io.specs.Faults.{HasCause, Increased};
     ghost use Rattle.cc_io.specs.Source.{prepend, IsAtEnd};
-    ghost use Rattle.cc_script_text.specs.Script.{cut, first, most_commands, with_line, with_line_end, with_text};
-    ghost use Rattle.cc_script_text.specs.Taken.{commands_read, left_of, read_ahead, IsByteTaken, IsFault, IsMoved, TakesCommand};
+    ghost use Rattle.cc_script_text.specs.Script.{cut, first, lacks, most_commands, with_line, with_line_end, with_text};
+    ghost use Rattle.cc_script_text.specs.Taken.{commands_read, left_of, read_ahead, IsByteAhead, IsByteTaken, IsFault, IsMoved, TakesCommand};
     ghost use Rattle.cc_script_text.specs.declared.command.Command.{Command};
 
     /// A reader that has read nothing.
@@ -69,7 +69,8 @@ impl ScriptReader {
         ensures none { IfOk result (λ some. some ≡ false
             → IsAtEnd (left_of self.new (I.left input.new))) }
         ensures err { OnErr result (read_ahead self.new ≡ []) }
-        ensures unasked { self.old.at < self.old.end → input.new ≡ input.old }
+        ensures unasked { self.old.at < self.old.end
+            → (result ≡ Ok true) × (self.new ≡ self.old) × (input.new ≡ input.old) }
         ensures cause { HasCause (I.faults input.old) (I.faults input.new) result }
         ensures count { self.new.count ≡ self.old.count }
     {
@@ -89,6 +90,8 @@ impl ScriptReader {
         ensures err { OnErr result (left_of self.new (I.left input.new)
             ≡ left_of self.old (I.left input.old)) }
         ensures ahead { OnErr result (read_ahead self.new ≡ []) }
+        ensures unasked { self.old.at < self.old.end → IsByteAhead result
+            (read_ahead self.old) (read_ahead self.new) × (input.new ≡ input.old) }
         ensures cause { HasCause (I.faults input.old) (I.faults input.new) result }
         ensures count { self.new.count ≡ self.old.count }
     {
@@ -111,6 +114,9 @@ impl ScriptReader {
         ensures fault { IfErr result (λ e. IsFault first e (suc (commands_read self.old))
             (left_of self.old (I.left input.old)) (left_of self.new (I.left input.new))) }
         ensures ahead { IsErrOf result ScriptFault.Failed → read_ahead self.new ≡ [] }
+        ensures unasked { first (read_ahead self.old) ≢ lacks → (input.new ≡ input.old)
+            × IfOk result (λ line.
+            read_ahead self.old ≡ (line.items ++ 10 ∷ []) ++ read_ahead self.new) }
         ensures cause { IsErrOf result ScriptFault.Failed
             → Increased (I.faults input.old) (I.faults input.new) }
         ensures faults { I.faults input.old ≤ I.faults input.new }
@@ -141,6 +147,7 @@ impl ScriptReader {
             → IsFault (with_line_end command) e (suc (commands_read self.old))
             (left_of self.old (I.left input.old)) (left_of self.new (I.left input.new))) }
         ensures ahead { IsErrOf result ScriptFault.Failed → read_ahead self.new ≡ [] }
+        ensures unasked { self.old.at < self.old.end → input.new ≡ input.old }
         ensures cause { IsErrOf result ScriptFault.Failed
             → Increased (I.faults input.old) (I.faults input.new) }
         ensures faults { I.faults input.old ≤ I.faults input.new }
@@ -184,6 +191,8 @@ impl ScriptReader {
             → IsFault (with_text (Some (name, count))) e (suc (commands_read self.old))
             (left_of self.old (I.left input.old)) (left_of self.new (I.left input.new))) }
         ensures ahead { IsErrOf result ScriptFault.Failed → read_ahead self.new ≡ [] }
+        ensures unasked { count ≤ length (read_ahead self.old) → (input.new ≡ input.old)
+            × IfOk result (λ text. read_ahead self.old ≡ text.items ++ read_ahead self.new) }
         ensures cause { IsErrOf result ScriptFault.Failed
             → Increased (I.faults input.old) (I.faults input.new) }
         ensures faults { I.faults input.old ≤ I.faults input.new }
@@ -218,6 +227,7 @@ impl ScriptReader {
             (suc (commands_read self.old))
             (left_of self.old (I.left input.old)) (left_of self.new (I.left input.new))) }
         ensures ahead { IsErrOf result ScriptFault.Failed → read_ahead self.new ≡ [] }
+        ensures unasked { self.old.at < self.old.end → input.new ≡ input.old }
         ensures cause { IsErrOf result ScriptFault.Failed
             → Increased (I.faults input.old) (I.faults input.new) }
         ensures faults { I.faults input.old ≤ I.faults input.new }
@@ -248,6 +258,8 @@ impl ScriptReader {
             IsFault (with_text (Some (name.now, count))) e (suc (commands_read self.old))
             (left_of self.old (I.left input.old)) (left_of self.new (I.left input.new))) }
         ensures ahead { IsErrOf result ScriptFault.Failed → read_ahead self.new ≡ [] }
+        ensures unasked { with_text (Some (name.now, count)) (read_ahead self.old) ≢ lacks
+            → input.new ≡ input.old }
         ensures cause { IsErrOf result ScriptFault.Failed
             → Increased (I.faults input.old) (I.faults input.new) }
         ensures faults { I.faults input.old ≤ I.faults input.new }
@@ -270,6 +282,8 @@ impl ScriptReader {
             IsFault (with_line line.now) e (suc (commands_read self.old))
             (left_of self.old (I.left input.old)) (left_of self.new (I.left input.new))) }
         ensures ahead { IsErrOf result ScriptFault.Failed → read_ahead self.new ≡ [] }
+        ensures unasked { with_line line.now (read_ahead self.old) ≢ lacks
+            → input.new ≡ input.old }
         ensures cause { IsErrOf result ScriptFault.Failed
             → Increased (I.faults input.old) (I.faults input.new) }
         ensures faults { I.faults input.old ≤ I.faults input.new }
@@ -298,6 +312,7 @@ impl ScriptReader {
         ensures fault { IfErr result (λ e. IsFault first e (suc (commands_read self.old))
             (left_of self.old (I.left input.old)) (left_of self.new (I.left input.new))) }
         ensures ahead { IsErrOf result ScriptFault.Failed → read_ahead self.new ≡ [] }
+        ensures unasked { first (read_ahead self.old) ≢ lacks → input.new ≡ input.old }
         ensures cause { IsErrOf result ScriptFault.Failed
             → Increased (I.faults input.old) (I.faults input.new) }
         ensures faults { I.faults input.old ≤ I.faults input.new }
@@ -308,10 +323,10 @@ impl ScriptReader {
     }
 
     /// The next command of the script. What is taken of what is left is the command and nothing
-    /// more. `Broken` exactly where what is left begins with no command, or where `MOST_COMMANDS`
-    /// were given; nothing is read then. `Failed` only where a read failed, with a command that is
-    /// not whole. After a fault the reader is of no use: bytes that belong to the command are
-    /// gone.
+    /// more. The source is asked only where the command lacks bytes. `Broken` where what is left
+    /// begins with no command, and, without a read, where `MOST_COMMANDS` were given. `Failed`
+    /// only where a read failed while the command was not whole. After a fault the reader is of
+    /// no use: bytes of the command may be gone.
     pub fn next_command<I: Source>(
         &mut self,
         alloc: Global,
@@ -328,6 +343,7 @@ impl ScriptReader {
             → (result ≡ Err (ScriptFault.Broken (suc most_commands)))
             × (self.new ≡ self.old) × (input.new ≡ input.old) }
         ensures ahead { IsErrOf result ScriptFault.Failed → read_ahead self.new ≡ [] }
+        ensures unasked { first (read_ahead self.old) ≢ lacks → input.new ≡ input.old }
         ensures cause { IsErrOf result ScriptFault.Failed
             → Increased (I.faults input.old) (I.faults input.new) }
         ensures faults { I.faults input.old ≤ I.faults input.new }

@@ -1,5 +1,6 @@
 -- What was taken in several steps.
-use Rattle.std.proofs.Common.{◌≡◌, ◌≢◌, ◌⊎◌, ◌<◌, ◌≤◌, ◌-◌, ℕ, suc, List, [], ◌∷◌, ◌++◌, length, take, drop, get_or, Option, None, Some, Result, Ok, Err, IfOk, IfErr, ap, sym, subst, ◌∙◌, inl, inr, drop-cons, length-append, arith}
+use Rattle.std.proofs.Common.{◌≡◌, ◌≢◌, ◌⊎◌, ◌<◌, ◌≤◌, ◌+◌, ◌-◌, ℕ, suc, List, [], ◌∷◌, ◌++◌, length, take, drop, get_or, Option, None, Some, Result, Ok, Err, IfOk, IfErr, ap, sym, subst, ◌∙◌, inl, inr, drop-cons, append_assoc, append-nil, length-append, arith}
+use Rattle.std.proofs.lemmas.Bool.{cases_lt}
 use Rattle.std.specs.List.{slice_range}
 use Rattle.std.proofs.Math.Seq.{take-append_seam, drop-append_seam}
 use Rattle.std.proofs.Math.ListN.{drop_of_length-le}
@@ -73,13 +74,26 @@ moved_on before left most text text' ahead ahead' e m =
     ∙ (ap (prepend text) (sym (prepend-twice m.moved ahead' left))
     ∙ (prepend-twice text m.moved (prepend ahead' left) ∙ ap (λ t. prepend t (prepend ahead' left)) (sym m.to_text))))
 
--- ---- one byte
+-- ---- what was read ahead
 
-pub range_first : (bytes : List ℕ) (at end : ℕ) → at < end → end ≤ length bytes → take 1 (slice_range bytes at end) ≡ get_or bytes at 0 ∷ []
-range_first bytes at end some within =
+pub range_next : (bytes : List ℕ) (at end : ℕ) → at < end → end ≤ length bytes → slice_range bytes at end ≡ get_or bytes at 0 ∷ slice_range bytes (at + 1) end
+range_next bytes at end some within =
     let low : at < length bytes = omega (arith, some, within) in
-    let one : end - at ≡ suc (end - at - 1) = omega (arith, some) in
-    ap (λ n. take 1 (take n (drop at bytes))) one ∙ ap (λ t. take 1 (take (suc (end - at - 1)) t)) (drop-cons bytes at 0 low)
+    let one : end - at ≡ suc (end - (at + 1)) = omega (arith, some) in
+    let next : suc at ≡ at + 1 = omega arith in
+    ap (λ n. take n (drop at bytes)) one
+    ∙ (ap (λ t. take (suc (end - (at + 1))) t) (drop-cons bytes at 0 low) ∙ ap (λ n. get_or bytes at 0 ∷ take (end - (at + 1)) (drop n bytes)) next)
+
+-- a byte is there where some are
+pub some_ahead : (bytes : List ℕ) (at end : ℕ) → 0 < length (slice_range bytes at end) → at < end
+some_ahead bytes at end some = by-order (cases_lt at end)
+  where
+    by-order : (at < end) ⊎ (end ≤ at) → at < end
+    by-order (inl low) = low
+    by-order (inr high) =
+        let none : end - at ≡ 0 = omega (arith, high) in
+        let empty : length (slice_range bytes at end) ≡ 0 = ap (λ n. length (take n (drop at bytes))) none in
+        absurd (omega (arith, some, empty))
 
 -- ---- lines
 
@@ -97,3 +111,20 @@ line_long before mid after line b e f none other long = record {
   taken = line_pushed before mid after line b e f;
   said = first_long (line ++ b ∷ []) (cut_push 10 line b none other) (omega (arith, long, length-append line (b ∷ [])));
 }
+
+-- a line that is not whole lacks bytes, so there are some ahead where the command is
+pub line_ahead : (line all ahead : List ℕ) → all ≡ line ++ ahead → cut 10 line ≡ None → length line ≤ 100 → first all ≢ lacks → 0 < length ahead
+line_ahead line all [] e none few whole = absurd (whole (ap first (e ∙ append-nil line) ∙ first_lacks line none few))
+line_ahead line all (b ∷ ahead) e none few whole = omega arith
+
+-- and a text is ahead with what follows it
+pub text_ahead : (said : List ℕ × ℕ) (ahead : List ℕ) → with_text (Some said) ahead ≢ lacks → said.1 < length ahead
+text_ahead said ahead whole = by-order (cases_lt said.1 (length ahead))
+  where
+    by-order : (said.1 < length ahead) ⊎ (length ahead ≤ said.1) → said.1 < length ahead
+    by-order (inl low) = low
+    by-order (inr high) = absurd (whole (text_lacks said.0 said.1 ahead high))
+
+-- a byte goes from what is ahead to the line
+pub line_goes_on : (line all ahead ahead' : List ℕ) (b : ℕ) → all ≡ line ++ ahead → ahead ≡ b ∷ ahead' → all ≡ (line ++ b ∷ []) ++ ahead'
+line_goes_on line all ahead ahead' b e f = e ∙ (ap (λ t. line ++ t) f ∙ sym (append_assoc line (b ∷ []) ahead'))

@@ -1,6 +1,6 @@
 use Rattle.std.proofs.Common.{◌≡◌, ◌++◌, ◌∷◌, [], ◌≤◌, List, ℕ, None, length, ap, sym, ◌∙◌}
 use Rattle.cc_script_text.specs.Script.{cut, first, with_line}
-use Rattle.cc_script_text.specs.Taken.{left_of}
+use Rattle.cc_script_text.specs.Taken.{left_of, read_ahead}
 use Rattle.cc_script_text.proofs.lemmas.Firsts.{first_line}
 use Rattle.cc_script_text.proofs.lemmas.Takes.{commands_after, faults_after}
 use Rattle.cc_script_text.proofs.reader.ScriptReader.take_command.Goals as goal
@@ -31,3 +31,16 @@ returns-clause-fault g c =
     let after = left_of c.after_line.new.self (left c.after_line.new.input) in
     faults_after first (with_line slice) (line ++ 10 ∷ []) before mid after (goes line slice c.as_slice.ensures.value c.as_slice.ensures.fits c.in_ok-line.ensures.one)
     c.in_ok-line.ensures.taken c.args.self.now.count c.take_line.new.self.count c.take_line.ensures.count c.after_line.result c.after_line.ensures.fault
+
+pub returns-clause-unasked : goal.returns-clause-unasked
+returns-clause-unasked g c =
+    let line = c.in_ok-line.line.items in
+    let slice = c.as_slice.result.now in
+    λ whole.
+    (let h = c.in_ok-line.ensures.unasked whole in
+    c.after_line.ensures.unasked
+    (λ part.
+    whole
+    (ap first h.1
+    ∙ (goes line slice c.as_slice.ensures.value c.as_slice.ensures.fits c.in_ok-line.ensures.one (read_ahead c.take_line.new.self) ∙ part)))
+    ∙ h.0)
