@@ -176,7 +176,8 @@ end_means : (made command : Command) (bytes rest : List ℕ) → with_line_end m
 end_means made command [] rest h = absurd cc
 end_means made command (b ∷ bytes) rest h = end_by made command b bytes rest (eqb b 10) refl h
 
-text_means : (line after : List ℕ) (command : Command) (rest : List ℕ) (o : Option (List ℕ × ℕ)) → replace_of line ≡ o → with_text o after ≡ begins command rest → IsWritten command (line ++ 10 ∷ after) rest
+text_means : (line after : List ℕ) (command : Command) (rest : List ℕ) (o : Option (List ℕ × ℕ)) → replace_of line ≡ o → with_text o after ≡ begins command rest
+    → IsWritten command (line ++ 10 ∷ after) rest
 text_means line after command rest None is h = absurd cc
 text_means line after command rest (Some said) is h =
     let ends = end_means (Replace said.0 (take said.1 after)) command (drop said.1 after) rest h in

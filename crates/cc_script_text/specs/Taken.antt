@@ -2,7 +2,7 @@
 use Rattle.std.specs.Prelude.{◌≡◌, ◌⊎◌, ◌≤◌, ◌<◌, ℕ, List, [], ◌∷◌, ◌++◌, length, Option, None, Some, Result, Ok, Err}
 use Rattle.std.specs.List.{slice_range}
 use Rattle.cc_io.specs.Source.{prepend, IsAtEnd}
-use Rattle.cc_script_text.specs.Script.{First, begins, broken, lacks}
+use Rattle.cc_script_text.specs.Script.{First, begins, broken, lacks, first}
 use Rattle.cc_script_text.specs.declared.command.Command.{Command}
 use Rattle.cc_script_text.specs.declared.fault.ScriptFault.{ScriptFault}
 use Rattle.cc_script_text.specs.declared.fault.ScriptFault.TheVariants.{Broken, Failed, NoMemory}
@@ -65,3 +65,11 @@ IsFault says (Broken at) number before after =
     (at ≡ number) × (TakesBroken says before after ⊎ (TakesPart says before after × IsAtEnd after))
 IsFault says Failed number before after = TakesPart says before after
 IsFault says NoMemory number before after = (bytes : List ℕ) × (before ≡ prepend bytes after)
+
+-- ---- several commands
+
+-- these commands were taken one after another
+abbrev pub TakesAll : List Command → (before after : Option (List ℕ)) → Type 0
+TakesAll [] before after = after ≡ before
+TakesAll (command ∷ commands) before after =
+    (mid : Option (List ℕ)) × TakesCommand first command before mid × TakesAll commands mid after

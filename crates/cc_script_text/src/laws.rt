@@ -1,6 +1,6 @@
-//! Laws of scripts, each the contract of a function that does nothing.
+//! Laws of scripts and of their reading, each the contract of a function that does nothing.
 
-ghost use Rattle.cc_script_text.specs.Laws.{BreaksStand, CommandsAreSpelled, CommandsStand, RestIsNotRead};
+ghost use Rattle.cc_script_text.specs.Laws.{BreaksStand, BrokenIsSaid, CommandsAreSpelled, CommandsStand, EndIsSaid, LackIsSaid, RestIsNotRead, TakenIsSaid};
 ghost use Rattle.cc_script_text.specs.ScriptRows.{ScriptRows};
 
 /// Bytes begin with a command exactly where they begin with how it is written.
@@ -17,6 +17,14 @@ pub fn first_commands_stand()
 /// What follows `end`, or what breaks a command, changes nothing.
 pub fn the_rest_is_not_read()
     ensures { RestIsNotRead }
+{}
+
+/// What a reader takes of a script is what the script says.
+pub fn what_is_taken_is_said()
+    ensures commands { TakenIsSaid }
+    ensures end { EndIsSaid }
+    ensures broken { BrokenIsSaid }
+    ensures lack { LackIsSaid }
 {}
 
 /// Known scripts say what their rows have.

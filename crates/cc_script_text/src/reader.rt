@@ -1,6 +1,7 @@
 //! The reader of a script.
 
 ghost use Rattle.std.specs.Prelude.{◌≤◌, length};
+ghost use Rattle.cc_script_text.specs.Script.{most_commands};
 
 use crate::command::Command;
 use crate::fault::ScriptFault;
@@ -30,15 +31,19 @@ pub struct ScriptReader {
     count: u32,
     ghost ordered: { at ≤ end },
     ghost within: { end ≤ length buffer },
-    ghost few: { count ≤ 10000 },
+    ghost few: { count ≤ most_commands },
 }
 
 impl ScriptReader {
-    ghost use Rattle.std.specs.Prelude.{◌≡◌, ◌≢◌, ◌<◌, ℕ, suc, List, [], ◌∷◌, ◌++◌, true, false, None, Some, Ok, Err, vec_len, IfOk, IfErr, OnOk, OnErr, IsErrOf};
+    ghost use Rattle.std.specs.Prelude.{◌≡◌, ◌≢◌, ◌<◌, ℕ, suc, List, [], ◌∷◌, ◌++◌, true, false};
+    ghost use Rattle.std.specs.Prelude.{None, Some, Ok, Err, vec_len};
+    ghost use Rattle.std.specs.Prelude.{IfOk, IfErr, OnOk, OnErr, IsErrOf};
     ghost use Rattle.cc_io.specs.Faults.{HasCause, Increased};
     ghost use Rattle.cc_io.specs.Source.{prepend, IsAtEnd};
-    ghost use Rattle.cc_script_text.specs.Script.{cut, first, lacks, most_commands, with_line, with_line_end, with_text};
-    ghost use Rattle.cc_script_text.specs.Taken.{commands_read, left_of, read_ahead, IsByteAhead, IsByteTaken, IsFault, IsMoved, TakesCommand};
+    ghost use Rattle.cc_script_text.specs.Script.{cut, first, lacks};
+    ghost use Rattle.cc_script_text.specs.Script.{with_line, with_line_end, with_text};
+    ghost use Rattle.cc_script_text.specs.Taken.{commands_read, left_of, read_ahead, IsByteAhead};
+    ghost use Rattle.cc_script_text.specs.Taken.{IsByteTaken, IsFault, IsMoved, TakesCommand};
     ghost use Rattle.cc_script_text.specs.declared.command.Command.{Command};
 
     /// A reader that has read nothing.

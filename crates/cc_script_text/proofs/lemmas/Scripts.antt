@@ -11,12 +11,7 @@ commands_stand command bytes rest more e = first_extends bytes more (λ none. ab
 pub breaks_stand : BreaksStand
 breaks_stand bytes more e = first_extends bytes more (λ none. absurd cc) ∙ ap (extended more) e
 
--- the script after its first command
-pub script_more : (most : ℕ) (bytes : List ℕ) (f : First) → first bytes ≡ f → script_within (suc most) bytes ≡ script_by (script_within most) f
-unfolding script_within
-script_more most bytes f e = ap (script_by (script_within most)) e
-
-pub within-rest : (most : ℕ) (bytes more : List ℕ) → (script_within most bytes).ending ≢ with_lack → script_within most (bytes ++ more) ≡ script_within most bytes
+within-rest : (most : ℕ) (bytes more : List ℕ) → (script_within most bytes).ending ≢ with_lack → script_within most (bytes ++ more) ≡ script_within most bytes
 unfolding script_within
 within-rest zero bytes more whole = refl
 within-rest (suc most) bytes more whole =

@@ -3,18 +3,16 @@ use Rattle.std.proofs.Common.{◌≡◌, ◌≢◌, ◌⊎◌, ◌<◌, ◌≤�
 use Rattle.std.proofs.lemmas.Bool.{cases_lt}
 use Rattle.std.specs.List.{slice_range}
 use Rattle.std.proofs.Math.Seq.{take-append_seam, drop-append_seam}
-use Rattle.std.proofs.Math.ListN.{drop_of_length-le}
 use Rattle.cc_io.specs.Source.{prepend, IsAtEnd}
 use Rattle.cc_io.proofs.lemmas.Prepends.{prepend-twice}
 use Rattle.cc_script_text.specs.declared.command.Command.{Command}
 use Rattle.cc_script_text.specs.declared.fault.ScriptFault.{ScriptFault}
 use Rattle.cc_script_text.specs.declared.fault.ScriptFault.TheVariants.{Broken, Failed, NoMemory}
 use Rattle.cc_script_text.specs.declared.command.Command.TheVariants.{Replace}
-use Rattle.cc_script_text.specs.Script.{cut, First, begins, lacks, first, with_line_end, with_text}
-use Rattle.cc_script_text.specs.Taken.{TakesCommand, TakesPart, TakesBroken, IsFault, IsMoved}
+use Rattle.cc_script_text.specs.Script.{cut, First, lacks, first, with_line_end, with_text}
+use Rattle.cc_script_text.specs.Taken.{TakesCommand, TakesPart, TakesBroken, IsFault}
 use Rattle.cc_script_text.proofs.lemmas.Cuts.{cut_push}
 use Rattle.cc_script_text.proofs.lemmas.Firsts.{first_lacks, first_long}
-use Rattle.cc_script_text.proofs.lemmas.Scripts.{commands_stand}
 
 module _ (says onward : List ℕ → First) (front : List ℕ) (before mid after : Option (List ℕ)) (goes : (rest : List ℕ) → says (front ++ rest) ≡ onward rest) (taken : before ≡ prepend front mid) where
   both : (bytes : List ℕ) → mid ≡ prepend bytes after → before ≡ prepend (front ++ bytes) after
@@ -48,31 +46,12 @@ pub broken_fault : (says : List ℕ → First) (e : ScriptFault) (n m : ℕ) (be
     → TakesBroken says before after ⊎ (TakesPart says before after × IsAtEnd after) → IsFault says e (suc m) before after
 broken_fault says e n m before after is same h = subst (λ x. IsFault says x (suc m) before after) (sym is) (ap suc same, h)
 
--- where it is known what is left, it begins with the command that is taken
-pub taken_is_first : (command : Command) (bytes rest : List ℕ) → TakesCommand first command (Some bytes) (Some rest) → first bytes ≡ begins command rest
-taken_is_first command bytes rest t =
-    let whole : bytes ≡ t.bytes ++ rest = cc (t.taken) in
-    ap first whole ∙ commands_stand command t.bytes [] rest t.said
-
 -- ---- texts
-
--- bytes that are not more than the text are no whole `replace`
-pub text_lacks : (name : List ℕ) (count : ℕ) (bytes : List ℕ) → length bytes ≤ count → with_text (Some (name, count)) bytes ≡ lacks
-text_lacks name count bytes few = ap (with_line_end (Replace name (take count bytes))) (drop_of_length-le bytes few)
 
 pub text_whole : (name text rest : List ℕ) → with_text (Some (name, length text)) (text ++ rest) ≡ with_line_end (Replace name text) rest
 text_whole name text rest =
     ap (λ t. with_line_end (Replace name t) (drop (length text) (text ++ rest))) (take-append_seam text rest)
     ∙ ap (with_line_end (Replace name text)) (drop-append_seam text rest)
-
--- bytes that move from what was read ahead to the text
-pub moved_on : (before left : Option (List ℕ)) (most : ℕ) (text text' ahead ahead' : List ℕ) → before ≡ prepend text (prepend ahead left) → IsMoved most text text' ahead ahead' →
-    before ≡ prepend text' (prepend ahead' left)
-moved_on before left most text text' ahead ahead' e m =
-    e
-    ∙ (ap (λ t. prepend text (prepend t left)) m.from_front
-    ∙ (ap (prepend text) (sym (prepend-twice m.moved ahead' left))
-    ∙ (prepend-twice text m.moved (prepend ahead' left) ∙ ap (λ t. prepend t (prepend ahead' left)) (sym m.to_text))))
 
 -- ---- what was read ahead
 
@@ -116,14 +95,6 @@ line_long before mid after line b e f none other long = record {
 pub line_ahead : (line all ahead : List ℕ) → all ≡ line ++ ahead → cut 10 line ≡ None → length line ≤ 100 → first all ≢ lacks → 0 < length ahead
 line_ahead line all [] e none few whole = absurd (whole (ap first (e ∙ append-nil line) ∙ first_lacks line none few))
 line_ahead line all (b ∷ ahead) e none few whole = omega arith
-
--- and a text is ahead with what follows it
-pub text_ahead : (said : List ℕ × ℕ) (ahead : List ℕ) → with_text (Some said) ahead ≢ lacks → said.1 < length ahead
-text_ahead said ahead whole = by-order (cases_lt said.1 (length ahead))
-  where
-    by-order : (said.1 < length ahead) ⊎ (length ahead ≤ said.1) → said.1 < length ahead
-    by-order (inl low) = low
-    by-order (inr high) = absurd (whole (text_lacks said.0 said.1 ahead high))
 
 -- a byte goes from what is ahead to the line
 pub line_goes_on : (line all ahead ahead' : List ℕ) (b : ℕ) → all ≡ line ++ ahead → ahead ≡ b ∷ ahead' → all ≡ (line ++ b ∷ []) ++ ahead'

@@ -1,4 +1,4 @@
-use Rattle.std.proofs.Common.{◌≡◌, ◌<◌, ◌+◌, [], ◌∷◌, ℕ, List, get_or, ap, sym, ◌∙◌, rules}
+use Rattle.std.proofs.Common.{◌<◌, ◌+◌, [], ◌∷◌, ℕ, List, get_or, ap, sym, ◌∙◌, rules}
 use Rattle.std.specs.List.{slice_range}
 use Rattle.cc_io.specs.Source.{prepend}
 use Rattle.cc_io.proofs.lemmas.Prepends.{prepend-twice}
