@@ -1,0 +1,3 @@
+mod Rows
+mod Spelling
+pub mod lemmas

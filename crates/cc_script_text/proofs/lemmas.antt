@@ -1,0 +1,5 @@
+pub mod Cuts
+pub mod Firsts
+pub mod Scripts
+pub mod Takes
+pub mod Said
