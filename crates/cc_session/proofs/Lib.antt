@@ -1,0 +1,2 @@
+mod Remade
+mod Rebuilt
