@@ -101,7 +101,7 @@ fn stale_since(
 }
 
 // These lambdas, where of earlier ones the answers are kept.
-fn remade<H: Threads + Wait + Sync, G: Gate>(
+fn remake<H: Threads + Wait + Sync, G: Gate>(
     rt: &H,
     alloc: Global,
     lambdas: &[Lambda],
@@ -136,7 +136,7 @@ fn remade<H: Threads + Wait + Sync, G: Gate>(
 
 /// The image of a source, where of an earlier one its answers are kept, and what is kept of this
 /// one.
-pub(crate) fn rebuilt<H: Threads + Wait + Sync, G: Gate>(
+pub(crate) fn rebuild_from<H: Threads + Wait + Sync, G: Gate>(
     rt: &H,
     alloc: Global,
     now: &AcceptedSource,
@@ -156,7 +156,7 @@ pub(crate) fn rebuilt<H: Threads + Wait + Sync, G: Gate>(
     orders_are_unique();
     let typed = now.typed();
     let graph = graph_of(alloc, typed)?;
-    let made = remade(rt, alloc, &graph.lambdas, recipe, last, workers, gate)?;
+    let made = remake(rt, alloc, &graph.lambdas, recipe, last, workers, gate)?;
     let image = file_with(alloc, &graph, &made.answers)?;
     let source = Vec::from_slice(alloc, now.source())?;
     let jobs = count_of(&made.stale);

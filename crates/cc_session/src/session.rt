@@ -7,7 +7,7 @@ ghost use Rattle.cc_session.specs.Session.{IsAcceptedSource, Replaces, IsReplace
 ghost use Rattle.cc_session.specs.Rebuilds.{IsRebuilt};
 
 use crate::kept::Kept;
-use crate::rebuild::{Rebuilt, rebuilt};
+use crate::rebuild::{Rebuilt, rebuild_from};
 use board_work::Gate;
 use cc_edit::{AcceptedSource, EditFault};
 use cc_source::CompileFault;
@@ -104,7 +104,7 @@ impl Session {
             ≡ record self.old { last = Some self.old.source }) }
         ensures unchanged { OnErr result (self.new ≡ self.old) }
     {
-        let (it, kept) = rebuilt(
+        let (it, kept) = rebuild_from(
             rt,
             self.alloc,
             &self.now,

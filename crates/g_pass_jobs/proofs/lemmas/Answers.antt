@@ -62,14 +62,17 @@ module _ {M : Type 0} where
           kept_one x None e = ap (option_map (λ xs. x ∷ xs)) e
           kept_one x (Some ys) e = ap (option_map (λ xs. x ∷ xs)) e
 
-          by : (b : Bool) → (b ≡ false → (x : M) × (f j ≡ Some x) × (slice_get kept j ≡ Some x)) → all_some (map f js) ≡ option_map (merged stale kept js) (all_some (map f (filter (is_stale stale) js))) →
-              all_some (f j ∷ map f js) ≡ option_map (λ given. cond b (cons_option (slice_get given 0) (merged stale kept js (drop 1 given))) (cons_option (slice_get kept j) (merged stale kept js given)))
+          by : (b : Bool) → (b ≡ false → (x : M) × (f j ≡ Some x) × (slice_get kept j ≡ Some x)) →
+              all_some (map f js) ≡ option_map (merged stale kept js) (all_some (map f (filter (is_stale stale) js))) →
+              all_some (f j ∷ map f js)
+              ≡ option_map (λ given. cond b (cons_option (slice_get given 0) (merged stale kept js (drop 1 given))) (cons_option (slice_get kept j) (merged stale kept js given)))
               (all_some (map f (cond b (j ∷ (filter (is_stale stale) js)) (filter (is_stale stale) js))))
           by true own rest = taken (f j) (all_some (map f (filter (is_stale stale) js))) rest refl
           by false own rest =
               let it = own refl in
               ap (λ o. all_some (o ∷ map f js)) it.1
-              ∙ (kept_one it.0 (all_some (map f (filter (is_stale stale) js))) rest ∙ ap (λ o. option_map (λ given. cons_option o (merged stale kept js given)) (all_some (map f (filter (is_stale stale) js)))) (sym it.2))
+              ∙ (kept_one it.0 (all_some (map f (filter (is_stale stale) js))) rest
+              ∙ ap (λ o. option_map (λ given. cons_option o (merged stale kept js given)) (all_some (map f (filter (is_stale stale) js)))) (sym it.2))
 
   -- ---- the small program
 

@@ -40,7 +40,8 @@ optimise-requires-clause-small c =
     let low : c.args.job < length (functions_of fields.stale.now) = omega (arith, c.requires, ap (λ (w : Jobs). length (functions_of w.stale)) c.self.view_is) in
     let f = slice_index fields.functions.now c.args.job in
     let x = c.index-lambdas-function.result in
-    let here = slice_get_read ls (length ls) f x refl (function-inside ls fields.functions.now fields.stale.now (call_lists fields.deps.now) c.self.invariant c.args.job low) c.index-lambdas-function.is in
+    let inside = function-inside ls fields.functions.now fields.stale.now (call_lists fields.deps.now) c.self.invariant c.args.job low in
+    let here = slice_get_read ls (length ls) f x refl inside c.index-lambdas-function.is in
     subst (λ (l : PlainLambda). lambda_values l < 2 ^ 32) (sym c.in_ok-lambda.ensures) (c.self.invariant.small f x here)
 
 pub optimise-requires-clause-well_formed : goal.optimise-requires-clause-well_formed
@@ -50,7 +51,8 @@ optimise-requires-clause-well_formed c =
     let low : c.args.job < length (functions_of fields.stale.now) = omega (arith, c.requires, ap (λ (w : Jobs). length (functions_of w.stale)) c.self.view_is) in
     let f = slice_index fields.functions.now c.args.job in
     let x = c.index-lambdas-function.result in
-    let here = slice_get_read ls (length ls) f x refl (function-inside ls fields.functions.now fields.stale.now (call_lists fields.deps.now) c.self.invariant c.args.job low) c.index-lambdas-function.is in
+    let inside = function-inside ls fields.functions.now fields.stale.now (call_lists fields.deps.now) c.self.invariant c.args.job low in
+    let here = slice_get_read ls (length ls) f x refl inside c.index-lambdas-function.is in
     subst (λ (l : PlainLambda). IsWellFormed l) (sym c.in_ok-lambda.ensures) (c.self.invariant.well_formed f x here)
 
 pub returns : goal.returns
@@ -69,7 +71,7 @@ returns c =
     let own = c.as_slice-deps.ensures.value ∙ (ap items c.index-all_deps-function.is ∙ sym (get_or-map items fields.deps.now f y [] (omega (arith, there, length-map fields.deps.now items)))) in
     let answers = ap (map arc_value) c.deref.ensures.value ∙ c.in_ok-answers.ensures in
     let same =
-    made-is ls fields.functions.now fields.stale.now deps c.self.invariant c.args.job low rules fields.recipe.now (map arc_value fields.kept.now) (map arc_value c.args.callees.now) c.as_slice-deps.result.now
-    (map arc_value c.deref.result.now) c.in_ok-lambda.lambda own answers lambda
+    made-is ls fields.functions.now fields.stale.now deps c.self.invariant c.args.job low rules fields.recipe.now (map arc_value fields.kept.now) (map arc_value c.args.callees.now)
+    c.as_slice-deps.result.now (map arc_value c.deref.result.now) c.in_ok-lambda.lambda own answers lambda
     ∙ ap (λ (j : Jobs). made_anew rules j c.args.job (map arc_value c.args.callees.now)) c.self.view_is in
     subst (λ y'. IfOk c.optimise.result (λ it. it ≡ y')) same c.optimise.ensures
