@@ -1,5 +1,5 @@
 -- The answers that are kept, and those that are made anew.
-use Rattle.std.proofs.Common.{◌≡◌, ◌<◌, ℕ, [], Bool, false, List, length, map, slice_get, slice_index, slice_index_or, refl, sym, ap, subst, ◌∙◌, arith}
+use Rattle.std.proofs.Common.{◌≡◌, ℕ, [], Bool, false, List, length, map, slice_get, slice_index, slice_index_or, refl, sym, ap, subst, ◌∙◌, arith}
 use Rattle.std.proofs.lemmas.List.{length-map}
 use Rattle.std.specs.List.{range_with_len}
 use Rattle.board_core.specs.Board.{Program, deps_of}

@@ -1,9 +1,8 @@
-use Rattle.std.proofs.Common.{◌≡◌, ◌<◌, ◌^◌, [], ℕ, List, Bool, Vec, Global, length, map, slice_index_or, sym, ap, subst, ◌∙◌, arith}
+use Rattle.std.proofs.Common.{◌≡◌, [], ℕ, List, Vec, Global, length, map, slice_index_or, sym, ap, subst, ◌∙◌, arith}
 use Rattle.std.specs.Prelude.{IfOk}
-use Rattle.std.specs.List.{range_with_len}
 use Rattle.std.proofs.lemmas.List.{length-map}
 use Rattle.call_order.specs.Units.{call_lists, AllKnown}
-use Rattle.g_pass_jobs.specs.Renewal.{functions_of, job_of, stale_jobs}
+use Rattle.g_pass_jobs.specs.Renewal.{functions_of, stale_jobs}
 use Rattle.g_pass_renew.specs.Jobs.{Jobs}
 use Rattle.g_pass_renew.proofs.OneJob.{known}
 use Rattle.g_pass_renew.proofs.jobs.StaleJobs.deps.Goals as goal
