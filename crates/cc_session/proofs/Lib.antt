@@ -1,2 +1,2 @@
-mod Remade
-mod Rebuilt
+mod Earlier
+mod FromParts

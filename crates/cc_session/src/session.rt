@@ -23,7 +23,7 @@ use std::thread::Threads;
 #[derive(Drop)]
 pub struct Session {
     alloc: Global,
-    now: AcceptedSource,
+    current: AcceptedSource,
     recipe: Recipe,
     last: Option<Kept>,
 }
@@ -37,12 +37,12 @@ impl Model for Session {
     ghost coded = { coded_session };
 
     ghost view = { λ s. record {
-      source = s.now.source;
+      source = s.current.source;
       recipe = s.recipe;
       last = option_map (λ (k : PlainKept). k.source) s.last;
     } };
 
-    ghost invariant = { λ s. IsSession s.now s.recipe s.last };
+    ghost invariant = { λ s. IsSession s.current s.recipe s.last };
 }
 
 impl Session {
@@ -54,10 +54,10 @@ impl Session {
         ensures accepted { IfOk result (λ _. IsAcceptedSource source.items) }
         ensures refused { IfErr result (λ e. Refuses e source.items) }
     {
-        let now = AcceptedSource::read(alloc, source)?;
+        let current = AcceptedSource::read(alloc, source)?;
         Ok(Session {
             alloc,
-            now,
+            current,
             recipe,
             last: None,
         })
@@ -67,7 +67,7 @@ impl Session {
     pub fn source(&self) -> &[u8]
         ensures { result.now ≡ self.now.source }
     {
-        self.now.source()
+        self.current.source()
     }
 
     /// Replaces the definition of the first function of a name, from its first token to its closing
@@ -80,8 +80,8 @@ impl Session {
         ensures refused { IfErr result (λ e. IsReplaceRefused e self.old name.now text.now) }
         ensures unchanged { OnErr result (self.new ≡ self.old) }
     {
-        let after = self.now.edited(self.alloc, name, text)?;
-        self.now = after;
+        let after = self.current.edited(self.alloc, name, text)?;
+        self.current = after;
         Ok(())
     }
 
@@ -107,7 +107,7 @@ impl Session {
         let (it, kept) = rebuild_from(
             rt,
             self.alloc,
-            &self.now,
+            &self.current,
             &self.recipe,
             &self.last,
             workers,

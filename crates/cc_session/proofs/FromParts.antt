@@ -1,33 +1,25 @@
 -- What a rebuild gives, from its parts.
-use Rattle.std.proofs.Common.{◌≡◌, ◌≤◌, ◌<◌, ◌^◌, ℕ, Bool, List, [], length, slice_get, refl, sym, subst, arith}
+use Rattle.std.proofs.Common.{◌≡◌, ◌<◌, ◌^◌, ℕ, Bool, List, slice_get, refl, sym, subst, arith}
 use Rattle.std.specs.Prelude.{Option, None, Some, count_by}
-use Rattle.limits.specs.Limits.{most_functions}
 use Rattle.g_graph.specs.declared.steps.Rule.{Rule}
-use Rattle.g_graph.specs.Lists.{IsComplete}
 use Rattle.g_graph.specs.Plain.{PlainLambda, PlainOptimised}
 use Rattle.g_graph.specs.Program.{lambda_values}
 use Rattle.g_build_def.specs.Functions as built
 use Rattle.g_pass_order.specs.Calls.{IsOrder}
 use Rattle.g_pass_order.specs.Laws.{OrdersAreUnique}
+use Rattle.g_pass_def.specs.Answers.{AreAnswers}
+use Rattle.g_pass.specs.Sweep.{rules}
 use Rattle.c_typed.specs.Typed.{ProgramTree}
+use Rattle.cc_source.specs.Accepted.{Accepts}
 use Rattle.cc_emit_def.specs.Image.{file_of_program, lambdas_of, CanEmit}
 use Rattle.cc_edit.specs.Accepted.{PlainAccepted}
 use Rattle.cc_session.specs.Session as session
-use Rattle.cc_session.specs.Session.{PlainKept, IsLast, IsSession}
+use Rattle.cc_session.specs.Session.{PlainKept, IsKept, IsLast, IsSession}
 use Rattle.cc_session.specs.Rebuilds.{AreRemade, AreStaleSince, HadDeps, IsRebuiltFrom, last_source}
 
--- ---- the lambdas of a program that can be put in an image
-
-pub few : (p : ProgramTree) → CanEmit (built.omega p) (built.graph p) → length (built.graph p) ≤ most_functions
-few p can = can.limits.functions
-
-pub complete : (p : ProgramTree) → CanEmit (built.omega p) (built.graph p) → IsComplete (built.graph p)
-complete p can = can.program.complete
-
+-- the lambdas of a program that can be put in an image have few values
 pub small : (p : ProgramTree) → CanEmit (built.omega p) (built.graph p) → (f : ℕ) (l : PlainLambda) → slice_get (built.graph p) f ≡ Some l → lambda_values l < 2 ^ 32
 small p can f l e = omega (arith, (can.limits.each f l e).values)
-
--- ---- a rebuild
 
 had-deps : (recipe : List Rule) (last : Option PlainKept) → IsLast recipe last → HadDeps (last_source last) (session.lambdas_of last) (session.deps_of last)
 had-deps recipe None it = (refl, refl)
@@ -41,8 +33,8 @@ had-deps recipe (Some k) it = record {
 
 module _ (unique : OrdersAreUnique) (now : PlainAccepted) (recipe : List Rule) (last : Option PlainKept) (is : IsSession now recipe last)
     (deps : List (List ℕ)) (stale : List Bool) (answers : List PlainOptimised) (made : AreRemade recipe last (built.graph now.program) deps stale answers) where
-  stale-since : AreStaleSince (last_source last) now.source (count_by (λ (b : Bool). b) stale)
-  stale-since = record {
+  stale-since : (jobs : ℕ) → jobs ≡ count_by (λ (b : Bool). b) stale → AreStaleSince (last_source last) now.source jobs
+  stale-since jobs count = record {
     old = session.lambdas_of last;
     old_deps = session.deps_of last;
     had = had-deps recipe last is.is_last;
@@ -51,20 +43,28 @@ module _ (unique : OrdersAreUnique) (now : PlainAccepted) (recipe : List Rule) (
     has = record { program = now.program; accepted = is.accepted; lambdas_are = refl; ranks = made.ranks; order = made.order };
     stale = stale;
     are_stale = made.are_stale;
-    count = refl;
+    count = count;
   }
 
-  pub rebuilt-from : IsRebuiltFrom now recipe last (file_of_program (built.omega now.program) (lambdas_of answers)) (count_by (λ (b : Bool). b) stale)
-      (record { source = now.source; lambdas = built.graph now.program; deps = deps; answers = answers })
-  rebuilt-from = record {
-    image = record { answers = answers; made = made.answered; file = refl };
-    are_stale = stale-since;
-    source_is = refl;
-    is_kept = record {
-      program = now.program;
-      accepted = is.accepted;
-      lambdas_are = refl;
-      answered = made.answered;
-      deps_are = (unique (built.graph now.program) made.answered.ranks made.ranks made.answered.deps deps made.answered.order made.order).1;
-    };
+  is-kept : (source : List ℕ) (ls : List PlainLambda) → source ≡ now.source → ls ≡ built.graph now.program →
+      IsKept recipe (record { source = source; lambdas = ls; deps = deps; answers = answers })
+  is-kept source ls source-is ls-are =
+      let all = subst (λ (xs : List PlainLambda). AreAnswers rules recipe xs answers) (sym ls-are) made.answered in
+      let order = subst (λ (xs : List PlainLambda). IsOrder xs made.ranks deps) (sym ls-are) made.order in
+      record {
+        program = now.program;
+        accepted = subst (λ (text : List ℕ). Accepts text now.program) (sym source-is) is.accepted;
+        lambdas_are = ls-are;
+        answered = all;
+        deps_are = (unique ls all.ranks made.ranks all.deps deps all.order order).1;
+      }
+
+  pub rebuilt : (bytes : List ℕ) (jobs : ℕ) (source : List ℕ) (ls : List PlainLambda) → bytes ≡ file_of_program (built.omega now.program) (lambdas_of answers) →
+      jobs ≡ count_by (λ (b : Bool). b) stale → source ≡ now.source → ls ≡ built.graph now.program →
+      IsRebuiltFrom now recipe last bytes jobs (record { source = source; lambdas = ls; deps = deps; answers = answers })
+  rebuilt bytes jobs source ls file count source-is ls-are = record {
+    image = record { answers = answers; made = made.answered; file = file };
+    are_stale = stale-since jobs count;
+    source_is = source-is;
+    is_kept = is-kept source ls source-is ls-are;
   }
