@@ -1,5 +1,5 @@
 -- The lambdas of a source, of which answers are kept.
-use Rattle.std.proofs.Common.{◌≡◌, ℕ, Bool, List, [], refl, sym, subst, arith}
+use Rattle.std.proofs.Common.{ℕ, Bool, List, [], refl, sym, subst, arith}
 use Rattle.std.specs.Prelude.{Option, None, Some}
 use Rattle.g_graph.specs.declared.steps.Rule.{Rule}
 use Rattle.g_graph.specs.Plain.{PlainLambda}
