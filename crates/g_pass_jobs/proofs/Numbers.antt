@@ -1,7 +1,7 @@
 -- Functions, jobs and deps, one more at a time.
-use Rattle.std.proofs.Common.{◌≡◌, ◌<◌, ◌≤◌, ◌+◌, ◌++◌, ℕ, Bool, true, false, cond, List, [], ◌∷◌, Vec, Global, length, map, take, slice_index, slice_index_or, refl, sym, ap, ◌∙◌, arith, length-append}
+use Rattle.std.proofs.Common.{◌≡◌, ◌<◌, ◌+◌, ◌++◌, ℕ, Bool, true, false, cond, List, [], ◌∷◌, Vec, Global, length, map, take, slice_index, slice_index_or, refl, sym, ap, ◌∙◌, arith, length-append}
 use Rattle.std.specs.List.{filter, range_with_len}
-use Rattle.std.proofs.lemmas.List.{take_more, map-append, get_or-map, get_or_default, get_or_past}
+use Rattle.std.proofs.lemmas.List.{take_more, map-append, get_or-map, get_or_default}
 use Rattle.std.proofs.lemmas.List.FromFn.{get_or-map-range_with_len}
 use Rattle.std.proofs.lemmas.List.Elements.{filter-append, filter_more}
 use Rattle.call_order.specs.Units.{call_lists}
@@ -89,9 +89,6 @@ lists-more f xs i before after v inside was here is =
     ∙ (ap (λ y. map f (take i xs) ++ y ∷ []) here
     ∙ (sym (map-append f (take i xs) (slice_index xs i ∷ [])) ∙ ap (map f) (sym (take_more xs i 0 inside))))))
 
--- what is read where something is, and past the end
+-- what is read where something is
 pub stale-read : (stale : List Bool) (j : ℕ) → j < length stale → slice_index_or stale j false ≡ is_stale stale j
 stale-read stale j inside = get_or_default stale j false true inside
-
-pub stale-past : (stale : List Bool) (j : ℕ) → length stale ≤ j → true ≡ is_stale stale j
-stale-past stale j past = sym (get_or_past stale j true past)

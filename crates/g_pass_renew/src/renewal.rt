@@ -3,7 +3,7 @@
 ghost use Rattle.std.specs.Prelude.{◌≡◌, ◌≤◌, ◌<◌, ◌^◌, ℕ, Some, length, map, slice_get, IfOk};
 ghost use Rattle.std.specs.Arc.{arc_value};
 ghost use Rattle.limits.specs.Limits.{most_functions, most_workers};
-ghost use Rattle.call_order.specs.Units.{call_lists, AllKnown};
+ghost use Rattle.call_order.specs.Units.{call_lists};
 ghost use Rattle.board_core.specs.Answers.{IsRanked};
 ghost use Rattle.board_one.specs.Alone.{AreResults};
 ghost use Rattle.g_graph.specs.Lists.{IsComplete};
