@@ -1,0 +1,68 @@
+//! What is kept of the last rebuild.
+
+ghost use Rattle.std.specs.Prelude.{◌≡◌, map};
+ghost use Rattle.std.specs.Arc.{arc_value};
+ghost use Rattle.call_order.specs.Units.{call_lists};
+ghost use Rattle.cc_session.specs.Session.{answers_of, deps_of, lambdas_of};
+
+use g_graph::{Lambda, Optimised};
+use std::marker::Model;
+use std::sync::Arc;
+
+/// What is kept of the last rebuild: its source, the lambdas of its program, the deps of each, and
+/// what the recipe made of each. Contracts see a plain record.
+#[derive(Drop)]
+pub(crate) struct Kept {
+    pub(crate) source: Vec<u8>,
+    pub(crate) lambdas: Vec<Lambda>,
+    pub(crate) deps: Vec<Vec<u32>>,
+    pub(crate) answers: Vec<Arc<Optimised>>,
+}
+
+impl Model for Kept {
+    ghost use Rattle.std.specs.Prelude.{map};
+    ghost use Rattle.std.specs.Arc.{arc_value};
+    ghost use Rattle.call_order.specs.Units.{call_lists};
+    ghost use Rattle.cc_session.specs.Session.{PlainKept, coded_kept};
+
+    ghost Value = { PlainKept };
+
+    ghost coded = { coded_kept };
+
+    ghost view = { λ k. record {
+      source = k.source.items;
+      lambdas = k.lambdas.items;
+      deps = call_lists k.deps.items;
+      answers = map arc_value k.answers.items;
+    } };
+}
+
+/// The lambdas that are kept; none where there was no rebuild.
+pub(crate) fn lambdas_of(last: &Option<Kept>) -> &[Lambda]
+    ensures { result.now ≡ lambdas_of last.now }
+{
+    match last {
+        Some(kept) => kept.lambdas.as_slice(),
+        None => &[],
+    }
+}
+
+/// The deps of the kept lambdas.
+pub(crate) fn deps_of(last: &Option<Kept>) -> &[Vec<u32>]
+    ensures { call_lists result.now ≡ deps_of last.now }
+{
+    match last {
+        Some(kept) => kept.deps.as_slice(),
+        None => &[],
+    }
+}
+
+/// The answers of the kept lambdas.
+pub(crate) fn answers_of(last: &Option<Kept>) -> &[Arc<Optimised>]
+    ensures { map arc_value result.now ≡ answers_of last.now }
+{
+    match last {
+        Some(kept) => kept.answers.as_slice(),
+        None => &[],
+    }
+}

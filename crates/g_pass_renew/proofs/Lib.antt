@@ -1,0 +1,3 @@
+mod WholeList
+mod OneJob
+mod Crosses
