@@ -1,3 +1,4 @@
+-- What crates above may cite.
 pub mod Cuts
 pub mod Firsts
 pub mod Scripts

@@ -1,2 +1,3 @@
+-- What crates above may cite.
 pub mod Functions
 pub mod Answers

@@ -1,3 +1,4 @@
+-- The functions so far have the names that they had.
 use Rattle.std.proofs.Common.{length}
 use Rattle.cc_edit.proofs.edit.+have_same_names.Given as goal
 

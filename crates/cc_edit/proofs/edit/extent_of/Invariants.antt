@@ -1,3 +1,4 @@
+-- None of the functions so far has the name.
 use Rattle.std.proofs.Common.{◌≡◌, drop}
 use Rattle.cc_edit.specs.Edits.{extent_of}
 use Rattle.cc_edit.proofs.edit.extent_of.Given as goal

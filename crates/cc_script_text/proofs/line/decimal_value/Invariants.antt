@@ -1,3 +1,4 @@
+-- The value of the digits so far.
 use Rattle.std.proofs.Common.{◌≡◌, ◌^◌, take, min}
 use Rattle.cc_script_text.specs.Script.{decimal_value}
 use Rattle.cc_script_text.proofs.line.decimal_value.Given as goal

@@ -1,3 +1,4 @@
+-- The byte is none of those so far.
 use Rattle.std.specs.Prelude.{slice_index}
 use Rattle.std.proofs.Common.{◌≢◌, ◌<◌, ℕ}
 use Rattle.cc_script_text.proofs.pieces.cut.Given as goal

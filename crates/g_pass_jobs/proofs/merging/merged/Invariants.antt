@@ -1,3 +1,4 @@
+-- Of the functions so far the answers are put together.
 use Rattle.std.proofs.Common.{◌≡◌, ◌≤◌, ◌++◌, map, drop}
 use Rattle.std.specs.Arc.{arc_value}
 use Rattle.g_pass_jobs.specs.Renewal.{merged}

@@ -1,3 +1,4 @@
+-- Of the deps so far those that are stale have their numbers.
 use Rattle.std.proofs.Common.{◌≡◌, [], map, take, slice_index_or}
 use Rattle.call_order.specs.Units.{call_lists}
 use Rattle.g_pass_jobs.specs.Renewal.{stale_jobs}

@@ -1,3 +1,4 @@
+-- As many numbers as turns are listed.
 use Rattle.std.proofs.Common.{◌≡◌}
 use Rattle.std.specs.List.{range_with_len}
 use Rattle.g_pass_jobs.proofs.numbering.first_functions.Given as goal

@@ -1,3 +1,4 @@
+-- The stale ones of the functions so far are listed.
 use Rattle.std.proofs.Common.{◌≡◌}
 use Rattle.g_pass_jobs.specs.Renewal.{stale_below}
 use Rattle.g_pass_jobs.proofs.numbering.functions_of.Given as goal

@@ -1,3 +1,4 @@
+-- The jobs so far have their deps.
 use Rattle.std.proofs.Common.{◌≡◌, ◌≤◌, map}
 use Rattle.std.specs.List.{range_with_len}
 use Rattle.g_pass_jobs.specs.Renewal.{job_of}

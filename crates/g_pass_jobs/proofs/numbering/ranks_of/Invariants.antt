@@ -1,3 +1,4 @@
+-- The ranks of the functions so far are listed.
 use Rattle.std.proofs.Common.{◌≡◌, map, take, slice_index}
 use Rattle.g_pass_jobs.proofs.numbering.ranks_of.Given as goal
 

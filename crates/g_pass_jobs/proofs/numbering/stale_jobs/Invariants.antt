@@ -1,3 +1,4 @@
+-- The stale ones of the functions so far have their numbers.
 use Rattle.std.proofs.Common.{◌≡◌, take}
 use Rattle.g_pass_jobs.specs.Renewal.{stale_jobs}
 use Rattle.g_pass_jobs.proofs.numbering.stale_jobs.Given as goal

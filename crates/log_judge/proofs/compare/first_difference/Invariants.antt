@@ -1,3 +1,4 @@
+-- The bytes so far are equal.
 use Rattle.std.proofs.Common.{◌≡◌, ◌<◌, ◌≤◌, ℕ, length, slice_get}
 use Rattle.log_judge.proofs.compare.first_difference.Given as goal
 

@@ -1,3 +1,4 @@
+-- The functions so far have the names of the log.
 use Rattle.log_judge.proofs.Named.{HasCome}
 use Rattle.log_judge.proofs.names.first_other_name.Given as goal
 

@@ -1,3 +1,4 @@
+-- The line so far is the front of what was ahead.
 use Rattle.std.proofs.Common.{◌≡◌, ◌≢◌, ◌-◌, ◌≤◌, ◌++◌, None, length}
 use Rattle.cc_io.specs.Source.{prepend}
 use Rattle.cc_script_text.specs.Script.{cut, first, lacks}

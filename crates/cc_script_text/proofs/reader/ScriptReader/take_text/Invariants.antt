@@ -1,3 +1,4 @@
+-- The text so far is the front of what was ahead.
 use Rattle.std.proofs.Common.{◌≡◌, ◌-◌, ◌≤◌, ◌++◌, length, vec_len}
 use Rattle.cc_io.specs.Source.{prepend}
 use Rattle.cc_script_text.specs.Taken.{left_of, read_ahead}
