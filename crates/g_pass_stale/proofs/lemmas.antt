@@ -1,2 +1,0 @@
--- Lemmas that crates above may cite.
-pub mod Unstale
