@@ -65,9 +65,9 @@ choice_one_first_counted x s p f g h k =
     let first : one.after.next ≡ suc s.next + length (nodes_ids (nodes_of one.nodes)) = k (inside s.carried (suc s.next)) in
     let zero = f (inside s.carried one.after.next) in
     let second : zero.after.next ≡ one.after.next + length (nodes_ids (nodes_of zero.nodes)) = h (inside s.carried one.after.next) in
-    let as = nodes_ids (nodes_of zero.nodes) in
-    let bs = nodes_ids (nodes_of one.nodes) in
-    omega (arith, first, second, length-append (s.next ∷ (as ++ (bs ++ []))) [], length-append as (bs ++ []), length-append bs [])
+    let zs = nodes_ids (nodes_of zero.nodes) in
+    let ns = nodes_ids (nodes_of one.nodes) in
+    omega (arith, first, second, length-append (s.next ∷ (zs ++ (ns ++ []))) [], length-append zs (ns ++ []), length-append ns [])
 
 pub repeat_counted : (s : Point) (f : Point → Built Origin) → Keeps f → Counts s (repeat s f)
 repeat_counted s f h =

@@ -1,14 +1,15 @@
 -- The body of a function takes as many numbers as it has nodes.
 use Rattle.std.specs.Prelude.{if◌then◌else◌, ◌==◌}
-use Rattle.std.proofs.Common.{◌≡◌, ℕ, suc, Bool, true, false, List, [], ◌∷◌, length, option_map, slice_get, Option, Some, None, refl, sym, ◌∙◌, subst, arith}
+use Rattle.std.proofs.Common.{◌≡◌, ◌≤◌, ℕ, suc, Bool, true, false, List, [], ◌∷◌, length, length-append, option_map, slice_get, Option, Some, None, refl, sym, ◌∙◌, subst, arith}
 use Rattle.std.proofs.lemmas.Option.{none-some, same_Some}
 use Rattle.c_typed.specs.Typed.{ItemTrees, no_items, stmt_then, declare_then, StmtTree, return_value, return_none, VariableTree, FunctionTree, ProgramTree}
 use Rattle.c_typed.specs.Objects.{access_width}
 use Rattle.c_typed.specs.WellTyped.{params_of}
 use Rattle.g_graph.specs.declared.op.Origin.{Origin}
 use Rattle.g_graph.specs.declared.op.Origin.TheVariants.{Arg}
-use Rattle.g_graph.specs.Plain.{PlainLambda, nodes_of}
-use Rattle.g_graph.specs.Ids.{nodes_ids, region_ids}
+use Rattle.g_graph.specs.Plain.{RegionTree, region, NodeTree, node, NodeTrees, no_nodes, node_then, RegionTrees, no_regions, region_then, PlainLambda, nodes_of}
+use Rattle.g_graph.specs.Ids.{region_ids, node_ids, nodes_ids, regions_ids}
+use Rattle.g_graph.specs.Count.{region_values, node_values, nodes_values, regions_values}
 use Rattle.g_build_def.specs.Writer.{jumping, Point, with_jumps, Built, given, nothing, bind}
 use Rattle.g_build_def.specs.Operations.{const_made, undef_made}
 use Rattle.g_build_def.specs.Exits.{some_items, body_jumps}
@@ -16,7 +17,7 @@ use Rattle.g_build_def.specs.Expressions.{expr_made}
 use Rattle.g_build_def.specs.Statements.{object_stored, declared_made, stmt_made, items_made}
 use Rattle.g_build_def.specs.Functions.{params_stored, start_of, end_value, jumps_begun, straight_then, straight_made, jumping_body, straight_body, body_built, body_made, next_number, lambda_made, graph}
 use Rattle.g_build_def.specs.Laws.{LambdasStandAtTheirNumbers}
-use Rattle.g_build_count_laws.specs.Laws.{NumbersCountNodes}
+use Rattle.g_build_count_laws.specs.Laws.{NumbersAreFew, NumbersCountNodes}
 use Rattle.g_build_count_laws.proofs.Counted.{Counts, Keeps, counted_here, bind_counted}
 use Rattle.g_build_count_laws.proofs.Expressions.{const_counted, expr_counted}
 use Rattle.g_build_count_laws.proofs.Statements.{undef_counted, stored_counted, declared_counted, stmt_counted, items_counted}
@@ -78,3 +79,24 @@ numbers_count_nodes stand p k l e = by (slice_get p.functions k) (sym (stand p k
     by None h = absurd (none-some l h)
     by (Some f) h =
         subst (λ (x : PlainLambda). x.next ≡ length (region_ids x.body)) (same_Some (lambda_made p k f) l h) (body_counted (k == p.main) f)
+
+-- ---- values
+
+-- a node is a value
+mutual
+  region_few : (r : RegionTree) → length (region_ids r) ≤ region_values r
+  region_few (region args nodes results) = let inner = nodes_few nodes in omega (arith, inner)
+
+  node_few : (x : NodeTree) → length (node_ids x) ≤ node_values x
+  node_few (node id op inputs rs) = let inner = regions_few rs in omega (arith, inner)
+
+  nodes_few : (ns : NodeTrees) → length (nodes_ids ns) ≤ nodes_values ns
+  nodes_few no_nodes = omega arith
+  nodes_few (node_then x ns) = let first = node_few x in let rest = nodes_few ns in omega (arith, first, rest, length-append (node_ids x) (nodes_ids ns))
+
+  regions_few : (rs : RegionTrees) → length (regions_ids rs) ≤ regions_values rs
+  regions_few no_regions = omega arith
+  regions_few (region_then r rs) = let first = region_few r in let rest = regions_few rs in omega (arith, first, rest, length-append (region_ids r) (regions_ids rs))
+
+pub numbers_are_few : LambdasStandAtTheirNumbers → NumbersAreFew
+numbers_are_few stand p k l e = omega (arith, numbers_count_nodes stand p k l e, region_few l.body)
