@@ -1,5 +1,5 @@
 -- The functions that a file defines have names.
-use Rattle.std.proofs.Common.{◌≡◌, Bool, true, false, List, [], ◌∷◌, ◌++◌, length}
+use Rattle.std.proofs.Common.{◌≡◌, Bool, true, false, List, [], ◌∷◌, ◌++◌}
 use Rattle.std.specs.List.{AllByRecursion}
 use Rattle.std.specs.Prelude.{Option, None, Some, if◌then◌else◌}
 use Rattle.c_lex.specs.declared.token.Token.{Token}
@@ -11,7 +11,7 @@ use Rattle.c_ast.specs.Grammar as grammar
 use Rattle.c_ast.specs.Spelling.{spelled}
 use Rattle.c_ast.specs.Tree.{Tree, Leaf, Node, Nil, Cons}
 use Rattle.c_check_scope.specs.Scopes.{Name}
-use Rattle.c_check_scope.specs.Names.{has_name, with_name}
+use Rattle.c_check_scope.specs.Names.{has_name}
 use Rattle.c_check_def.specs.Leaves.{name_by, name_of}
 use Rattle.c_check_def.specs.Check.{defined_after_type, defined_by, with_defined, defined_in}
 use Rattle.c_check_names_laws.specs.NamesLaws.{IsName}

@@ -1,5 +1,5 @@
 -- The tokens of a source that are names are identifiers, and not too long.
-use Rattle.std.proofs.Common.{◌≡◌, ◌≤◌, ℕ, List, [], ◌∷◌, length, sym, subst}
+use Rattle.std.proofs.Common.{◌≡◌, ℕ, List, length, sym, subst}
 use Rattle.std.specs.List.{AllByRecursion}
 use Rattle.std.specs.Prelude.{slice_range, Ok}
 use Rattle.c_lex.specs.Grammar.{Spells, Reads, done, trivia, token, TokensAreLongest}

@@ -1,8 +1,9 @@
 -- The rows of functions, of their lambdas and of what a recipe makes of these, function by function.
 use Rattle.std.specs.Prelude.{zip, slice_index_or, unwrap_or}
 use Rattle.std.specs.List.{AllByRecursion, sum_by}
-use Rattle.std.proofs.Common.{◌≡◌, ◌≤◌, ◌<◌, ◌+◌, ◌*◌, ◌^◌, ℕ, zero, suc, List, [], ◌∷◌, ◌++◌, map, length, length-append, Some, slice_get, refl, sym, ap, ap₂, ◌∙◌, arith}
+use Rattle.std.proofs.Common.{◌≡◌, ◌≤◌, ◌<◌, ◌+◌, ◌*◌, ◌^◌, ℕ, zero, suc, List, [], ◌∷◌, ◌++◌, map, length, length-append, Some, slice_get, refl, sym, ap, ap₂, ◌∙◌, le_trans, arith}
 use Rattle.std.proofs.lemmas.List.Sums.{sum_by-cons}
+use Rattle.std.proofs.lemmas.Nat.{mul-le}
 use Rattle.limits.specs.Limits.{most_lambda_values, most_grown_values, most_sweeps}
 use Rattle.c_typed.specs.Typed.{FunctionTree}
 use Rattle.g_graph.specs.declared.steps.Rule.{Rule}
@@ -67,18 +68,13 @@ rows_fit recipe [] (l ∷ ls) outs h = absurd h
 rows_fit recipe (f ∷ fs) [] outs h = absurd h
 rows_fit recipe (f ∷ fs) (l ∷ ls) [] h = absurd h
 
--- a product grows with its left side
-times_more : (m n k : ℕ) → m ≤ n → m * k ≤ n * k
-times_more zero n k h = omega arith
-times_more (suc m) zero k h = absurd (omega (arith, h))
-times_more (suc m) (suc n) k h = let rest = times_more m n k (omega (arith, h)) in let e : suc m * k ≡ k + m * k = omega arith in let d : suc n * k ≡ k + n * k = omega arith in omega (arith, rest, e, d)
-
 -- twice the bytes of a function's lines
 row_bytes : (recipe : List Rule) (f : FunctionTree) (l : PlainLambda) (a : PlainOptimised) → length recipe ≤ most_sweeps → Fits recipe f l a →
     2 * length (row_text (row_of f a)) ≤ 190 + 512 * (most_grown_values + lambda_values l)
 row_bytes recipe f l a sweeps h =
-    let few = times_more (length recipe) most_sweeps (most_grown_values + lambda_values l) sweeps in
-    omega (arith, row_length (row_of f a) (row_fits recipe f l a h), h.steps.few, few)
+    let most = most_grown_values + lambda_values l in
+    let few : 2 * length a.steps ≤ most_sweeps * most = le_trans h.steps.few (mul-le (length recipe) most most_sweeps most sweeps (omega arith)) in
+    omega (arith, row_length (row_of f a) (row_fits recipe f l a h), few)
 
 pub log_bytes : (recipe : List Rule) (fs : List FunctionTree) (ls : List PlainLambda) (outs : List PlainOptimised) → length recipe ≤ most_sweeps → AllFit recipe fs ls outs →
     2 * length (log_text (rows_from fs outs)) ≤ 190 * length ls + 512 * (most_grown_values * length ls + sum_by lambda_values ls)

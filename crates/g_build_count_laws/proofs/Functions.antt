@@ -1,8 +1,8 @@
 -- The body of a function takes as many numbers as it has nodes.
 use Rattle.std.specs.Prelude.{if◌then◌else◌, ◌==◌}
-use Rattle.std.proofs.Common.{◌≡◌, ◌≤◌, ℕ, suc, Bool, true, false, List, [], ◌∷◌, length, length-append, option_map, slice_get, Option, Some, None, refl, sym, ◌∙◌, subst, arith}
+use Rattle.std.proofs.Common.{◌≡◌, ◌≤◌, ℕ, suc, Bool, true, false, List, [], ◌∷◌, length, length-append, option_map, slice_get, Option, Some, None, sym, ◌∙◌, subst, arith}
 use Rattle.std.proofs.lemmas.Option.{none-some, same_Some}
-use Rattle.c_typed.specs.Typed.{ItemTrees, no_items, stmt_then, declare_then, StmtTree, return_value, return_none, VariableTree, FunctionTree, ProgramTree}
+use Rattle.c_typed.specs.Typed.{ItemTrees, no_items, stmt_then, declare_then, StmtTree, return_value, return_none, VariableTree, FunctionTree}
 use Rattle.c_typed.specs.Objects.{access_width}
 use Rattle.c_typed.specs.WellTyped.{params_of}
 use Rattle.g_graph.specs.declared.op.Origin.{Origin}
@@ -11,11 +11,10 @@ use Rattle.g_graph.specs.Plain.{RegionTree, region, NodeTree, node, NodeTrees, n
 use Rattle.g_graph.specs.Ids.{region_ids, node_ids, nodes_ids, regions_ids}
 use Rattle.g_graph.specs.Count.{region_values, node_values, nodes_values, regions_values}
 use Rattle.g_build_def.specs.Writer.{jumping, Point, with_jumps, Built, given, nothing, bind}
-use Rattle.g_build_def.specs.Operations.{const_made, undef_made}
+use Rattle.g_build_def.specs.Operations.{const_made}
 use Rattle.g_build_def.specs.Exits.{some_items, body_jumps}
-use Rattle.g_build_def.specs.Expressions.{expr_made}
 use Rattle.g_build_def.specs.Statements.{object_stored, declared_made, stmt_made, items_made}
-use Rattle.g_build_def.specs.Functions.{params_stored, start_of, end_value, jumps_begun, straight_then, straight_made, jumping_body, straight_body, body_built, body_made, next_number, lambda_made, graph}
+use Rattle.g_build_def.specs.Functions.{params_stored, start_of, end_value, jumps_begun, straight_then, straight_made, jumping_body, straight_body, body_made, next_number, lambda_made}
 use Rattle.g_build_def.specs.Laws.{LambdasStandAtTheirNumbers}
 use Rattle.g_build_count_laws.specs.Laws.{NumbersAreFew, NumbersCountNodes}
 use Rattle.g_build_count_laws.proofs.Counted.{Counts, Keeps, counted_here, bind_counted}
@@ -65,12 +64,18 @@ straight_body_counted is_main f =
     bind_counted (start_of f) (params_stored 0 0 (params_of f) (start_of f)) (λ _ s. straight_made is_main f.variables f.body s)
     (params_counted 0 0 (params_of f) (start_of f)) (λ _. straight_counted is_main f.variables f.body)
 
+-- numbers begin with 0
+from_start : (f : FunctionTree) (b : Built Origin) → Counts (start_of f) b → b.after.next ≡ length (nodes_ids (nodes_of b.nodes))
+from_start f b h = omega (arith, h)
+
 body_counted : (is_main : Bool) (f : FunctionTree) → next_number is_main f ≡ length (region_ids (body_made is_main f))
 body_counted is_main f =
     elim (body_jumps f.body)
     as (λ b. (if b then jumping_body is_main f else straight_body is_main f).after.next
-    ≡ length (nodes_ids (nodes_of (if b then jumping_body is_main f else straight_body is_main f).nodes)))
-    [ true ↦ jumping_counted is_main f | false ↦ straight_body_counted is_main f ]
+    ≡ length (nodes_ids (nodes_of (if b then jumping_body is_main f else straight_body is_main f).nodes))) [
+      | true ↦ from_start f (jumping_body is_main f) (jumping_counted is_main f)
+      | false ↦ from_start f (straight_body is_main f) (straight_body_counted is_main f)
+    ]
 
 pub numbers_count_nodes : LambdasStandAtTheirNumbers → NumbersCountNodes
 numbers_count_nodes stand p k l e = by (slice_get p.functions k) (sym (stand p k) ∙ e)

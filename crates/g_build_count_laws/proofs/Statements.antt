@@ -1,12 +1,12 @@
 -- Statements and declarations take as many numbers as they make nodes.
-use Rattle.std.proofs.Common.{◌≡◌, ℕ, suc, Bool, true, false, ◌&&◌, List, [], ◌∷◌, ◌++◌, Option, Some, None, slice_get, refl, sym, ap, ◌∙◌, arith}
+use Rattle.std.proofs.Common.{ℕ, suc, Bool, true, false, ◌&&◌, List, [], ◌∷◌, ◌++◌, Option, Some, None, slice_get}
 use Rattle.val_core.specs.declared.operation.Op2.TheVariants as op
 use Rattle.c_typed.specs.Typed.{ExprTree, OptionalExpr, no_expr, some_expr, ElementTrees, no_elements, value_then, characters_then, InitialTree, no_initial, initial_value, initial_elements, DeclarationTree, StmtTree, null, value, block, if_else, loop, do_while, break, continue, return_value, return_none, switch, ItemTrees, no_items, stmt_then, declare_then, GroupTrees, no_groups, group_then, VariableTree}
 use Rattle.c_typed.specs.WellTyped.{type_of}
 use Rattle.g_graph.specs.declared.op.Origin.{Origin}
-use Rattle.g_graph.specs.declared.op.Origin.TheVariants.{Arg, Out}
+use Rattle.g_graph.specs.declared.op.Origin.TheVariants.{Out}
 use Rattle.g_graph.specs.declared.op.Op.TheVariants.{Undef, Clear}
-use Rattle.g_build_def.specs.Writer.{SlotOrigin, held, object, hidden, newest, slot_origin, Point, with_go, with_go_and_ret, pushed, popped, newest_set, Built, given, nothing, bind, dropped, no_value, one_value, choice, choices, choice_one_first, repeat}
+use Rattle.g_build_def.specs.Writer.{held, object, hidden, newest, slot_origin, Point, with_go, with_go_and_ret, pushed, popped, newest_set, Built, given, nothing, bind, dropped, no_value, one_value, choice, choices, choice_one_first, repeat}
 use Rattle.g_build_def.specs.Operations.{const_made, undef_made, local_made, bin_made, store_made, clear_made, at_offset_made, is_zero_made}
 use Rattle.c_typed.specs.Objects.{access_width, object_number}
 use Rattle.g_build_def.specs.Expressions.{expr_made, tested}
@@ -19,7 +19,7 @@ use Rattle.g_build_count_laws.proofs.Expressions.{const_counted, bin_counted, lo
 
 -- ---- jumps
 
-undef_counted : Keeps undef_made
+pub undef_counted : Keeps undef_made
 undef_counted s = node_counted s Undef [] (Out s.next 0) s.carried.memory s.carried.io
 
 jump_counted : (w : ℕ) → Keeps (jump_made w)
@@ -159,6 +159,10 @@ moved_counted q d n s =
     bind_counted s (const_made d s) (λ k t. bind (bin_made op.Mul q k t) (λ m u. bin_made op.Add n m u)) (const_counted d s)
     (λ k t. bind_counted t (bin_made op.Mul q k t) (λ m u. bin_made op.Add n m u) (bin_counted op.Mul q k t) (λ m. bin_counted op.Add n m))
 
+-- a label before others
+abbrev with_label : (equal : Origin) → Selected → Point → Built Selected
+with_label q x s = given (record { number = x.number; equals = q ∷ x.equals }) s
+
 labels_counted : (p : Origin) (d : ℕ) (ls : List Label) (n : Origin) → Keeps (labels_made p d ls n)
 labels_counted p d [] n s = counted_here s
 labels_counted p d (l ∷ ls) n s =
@@ -167,20 +171,20 @@ labels_counted p d (l ∷ ls) n s =
     bind (bin_made op.Eq p w t)
     (λ q u.
     bind (moved_where q (word_difference l.target.segment d) n u)
-    (λ m v. bind (labels_made p d ls m v) (λ x z. given (record { number = x.number; equals = q ∷ x.equals }) z))))
+    (λ m v. bind (labels_made p d ls m v) (with_label q))))
     (const_counted l.word s)
     (λ w t.
     bind_counted t (bin_made op.Eq p w t)
     (λ q u.
     bind (moved_where q (word_difference l.target.segment d) n u)
-    (λ m v. bind (labels_made p d ls m v) (λ x z. given (record { number = x.number; equals = q ∷ x.equals }) z)))
+    (λ m v. bind (labels_made p d ls m v) (with_label q)))
     (bin_counted op.Eq p w t)
     (λ q u.
     bind_counted u (moved_where q (word_difference l.target.segment d) n u)
-    (λ m v. bind (labels_made p d ls m v) (λ x z. given (record { number = x.number; equals = q ∷ x.equals }) z))
+    (λ m v. bind (labels_made p d ls m v) (with_label q))
     (moved_counted q (word_difference l.target.segment d) n u)
     (λ m v.
-    bind_counted v (labels_made p d ls m v) (λ x z. given (record { number = x.number; equals = q ∷ x.equals }) z) (labels_counted p d ls m v)
+    bind_counted v (labels_made p d ls m v) (with_label q) (labels_counted p d ls m v)
     (λ x z. counted_here z))))
 
 segment_counted : (p : Origin) (d : ℕ) (ls : List Label) → Keeps (segment_made p d ls)

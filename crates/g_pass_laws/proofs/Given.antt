@@ -46,12 +46,13 @@ module _ (ranked : OrdersAreRanked) (recipe : List Rule) (ls : List PlainLambda)
       subst (λ xs. AreGiven j (lambdas_of xs)) (sym parts.4)
       (record {
         well_formed = (complete.well_formed d parts.0.lambda at, rest.well_formed);
-        apart =
-            (λ same.
+        apart = (
+          λ same.
               let equal : d ≡ j = sym number ∙ same in
               let ranks = ap (slice_index all.ranks) equal in
               omega (arith, dep.smaller, ranks),
-            rest.apart);
+          rest.apart,
+        );
       })
 
 pub answers_have_few_steps : OrdersAreRanked → RulesAreSteps → RulesKeepNumbers → AnswersKeepLists → AnswersHaveFewSteps

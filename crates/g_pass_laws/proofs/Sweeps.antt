@@ -2,6 +2,7 @@
 use Rattle.std.specs.Prelude.{nat_lt, reverse, reverse_aux, if◌then◌else◌}
 use Rattle.std.specs.List.{fold, AllByRecursion}
 use Rattle.std.proofs.Common.{◌≡◌, ◌≤◌, ◌<◌, ◌⊎◌, ◌+◌, ◌*◌, ◌^◌, ◌&&◌, ℕ, suc, Bool, true, false, List, [], ◌∷◌, ◌++◌, length, length-append, Option, None, Some, inl, inr, refl, sym, ap, subst, ◌∙◌, arith}
+use Rattle.std.proofs.Math.Nat.{suc-mul}
 use Rattle.std.proofs.lemmas.Bool.{and_parts}
 use Rattle.std.proofs.lemmas.Bool.Decides.{nat_tests}
 use Rattle.std.proofs.lemmas.List.{length-reverse}
@@ -124,14 +125,18 @@ module _ (are_steps : RulesAreSteps) (keep : RulesKeepNumbers) (held : List Plai
   recipe_on (r ∷ recipe) s h =
       let first = sweep_on r s h in
       let rest = recipe_on recipe (sweep rules held s r) first.stands in
-      record { stands = rest.stands; few = added (length recipe) most (length s.steps) _ _ first.few rest.few }
+      let last = fold (sweep rules held) (sweep rules held s r) recipe in
+      record { stands = rest.stands; few = added (length recipe) most (length s.steps) (length (sweep rules held s r).steps) (length last.steps) first.few rest.few }
     where
       added : (n m a b c : ℕ) → 2 * b ≤ 2 * a + 1 * m → 2 * c ≤ 2 * b + n * m → 2 * c ≤ 2 * a + suc n * m
-      added n m a b c h g = let e : suc n * m ≡ m + n * m = omega arith in omega (arith, h, g, e)
+      added n m a b c h g = let e : suc n * m ≡ n * m + m = suc-mul n m in omega (arith, h, g, e)
 
   pub few_steps : IsWellFormed l → HasNumbers l → (recipe : List Rule) → AreFewSteps recipe l (swept rules held recipe l).steps
   few_steps w has recipe =
       let on =
       recipe_on recipe (record { lambda = l; steps = [] })
       (record { number = refl; well_formed = w; values = inr (omega arith); has = has; steps = tt }) in
-      record { numbers = on.stands.steps; few = on.few }
+      record { numbers = on.stands.steps; few = none_before (length (swept rules held recipe l).steps) (length recipe * most) on.few }
+    where
+      none_before : (a b : ℕ) → 2 * a ≤ 2 * 0 + b → 2 * a ≤ b
+      none_before a b h = omega (arith, h)
