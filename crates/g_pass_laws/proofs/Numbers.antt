@@ -1,24 +1,21 @@
 -- The next number of a lambda has 32 bits where a rule has changed it.
-use Rattle.std.specs.Prelude.{◌==◌, nat_le, is_some, option_map, option_and_then, unwrap_or, if◌then◌else◌}
-use Rattle.std.proofs.Common.{◌≡◌, ◌<◌, ◌+◌, ◌^◌, ◌&&◌, ℕ, Bool, true, false, List, length, Option, None, Some, refl, ap, sym, subst, ◌∙◌, arith}
+use Rattle.std.specs.Prelude.{nat_le, is_some, option_map, option_and_then, if◌then◌else◌}
+use Rattle.std.proofs.Common.{◌≡◌, ◌+◌, ◌-◌, ◌^◌, ℕ, Bool, true, false, List, Option, None, Some, refl, subst}
 use Rattle.std.proofs.lemmas.Bool.{and_parts}
 use Rattle.std.proofs.lemmas.Option.{none-some, same_Some}
-use Rattle.limits.specs.Limits.{most_callee_values}
-use Rattle.g_graph.specs.declared.steps.Rule.{Rule}
 use Rattle.g_graph.specs.declared.steps.Rule.TheVariants.{Fold, Cne, Dne, Inv, Push, Pull, Invert, Unroll, Inline}
-use Rattle.g_graph.specs.Plain.{RegionTree, PlainLambda, nodes_in}
+use Rattle.g_graph.specs.Plain.{PlainLambda, nodes_in}
 use Rattle.g_graph.specs.Change.{region_changed}
 use Rattle.g_graph.specs.Count.{nodes_values}
 use Rattle.g_graph.specs.Program.{lambda_values}
-use Rattle.g_graph.specs.WellFormed.{IsWellFormed}
 use Rattle.r_edit.specs.Size.{may_change_size}
 use Rattle.r_copy.specs.Numbering.{node_count}
 use Rattle.r_inline.specs.Called.{called_at}
 use Rattle.r_inline.specs.Rule as inline_rule
-use Rattle.r_invert.specs.Rule.{body_inverted, ivt}
-use Rattle.r_pull.specs.Rule.{copies_at, pll}
-use Rattle.r_unroll.specs.Rule.{body_unrolled, url}
-use Rattle.g_pass.specs.Sweep.{applies, applied, numbered, inlined_at}
+use Rattle.r_invert.specs.Rule.{body_inverted}
+use Rattle.r_pull.specs.Rule.{copies_at}
+use Rattle.r_unroll.specs.Rule.{body_unrolled}
+use Rattle.g_pass.specs.Sweep.{applies, applied, numbered}
 use Rattle.g_pass_laws.specs.Laws.{HasNumbers, RulesKeepNumbers}
 use Rattle.g_pass_laws.proofs.Pulled.{has_room, pulled_next}
 use Rattle.g_pass_laws.proofs.Unrolled.{unrolled_next}

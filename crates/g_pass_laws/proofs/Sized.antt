@@ -44,7 +44,7 @@ mutual
   node_sized : (objects : ℕ) (args : List Kind) (before : NodeTrees) (x : NodeTree) → node_fits objects args before x ≡ true → every_in_node (region_fits objects) x ≡ true →
       2 * length (node_ids x) ≤ node_values x
   node_sized objects args before (node id op inputs rs) f e =
-      let own = (and_parts _ _ (and_parts _ _ (and_parts _ _ (and_parts _ _ (and_parts _ _ f).0).0).0).0).1 in
+      let own : has_its_regions (node id op inputs rs) ≡ true = (and_parts _ _ (and_parts _ _ (and_parts _ _ (and_parts _ _ (and_parts _ _ f).0).0).0).0).1 in
       let some = some_value id op inputs rs own in
       let inner = regions_sized objects rs e in
       omega (arith, some, inner)

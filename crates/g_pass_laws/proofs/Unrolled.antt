@@ -1,11 +1,10 @@
 -- There are numbers for the nodes that unrolling makes.
 use Rattle.std.specs.Prelude.{nat_le, not, option_map, option_and_then, unwrap_or, if◌then◌else◌}
-use Rattle.std.proofs.Common.{◌≡◌, ◌≤◌, ◌<◌, ◌+◌, ◌-◌, ◌*◌, ◌^◌, ◌==◌, ◌&&◌, ℕ, suc, Bool, true, false, List, [], ◌∷◌, ◌++◌, length, length-append, Option, None, Some, refl, sym, ap, subst, ◌∙◌, arith}
+use Rattle.std.proofs.Common.{◌≡◌, ◌≤◌, ◌<◌, ◌+◌, ◌-◌, ◌^◌, ◌==◌, ◌&&◌, ℕ, Bool, true, false, List, [], ◌++◌, length, length-append, Option, None, Some, refl, sym, ap, subst, arith}
 use Rattle.std.proofs.lemmas.Bool.{and_parts}
 use Rattle.std.proofs.lemmas.List.{length-map}
 use Rattle.std.proofs.lemmas.Option.{cond_some, same_Some}
 use Rattle.limits.specs.Limits.{most_loop_values}
-use Rattle.g_graph.specs.declared.op.Kind.{Kind}
 use Rattle.g_graph.specs.declared.op.Op.TheVariants.{Theta}
 use Rattle.g_graph.specs.declared.op.Origin.{Origin}
 use Rattle.g_graph.specs.Plain.{RegionTree, region, NodeTree, node, NodeTrees, no_nodes, node_then, no_regions, region_then, id_of, PlainLambda}
@@ -13,7 +12,6 @@ use Rattle.g_graph.specs.Ids.{region_ids, node_ids, nodes_ids}
 use Rattle.g_graph.specs.Count.{region_values}
 use Rattle.g_graph.specs.Nodes.{node_at, node_set}
 use Rattle.g_graph.specs.Program.{lambda_values}
-use Rattle.g_graph.specs.Splice.{joined_nodes}
 use Rattle.g_graph.specs.WellFormed.{IsWellFormed}
 use Rattle.g_graph.proofs.lemmas.Nests.{region_changed_ids}
 use Rattle.g_graph.proofs.lemmas.Splices.{nodes_ids-joined}
@@ -79,8 +77,8 @@ record Comes (next before after : ℕ) : Type 0 where
 node_comes : (values next : ℕ) (x y : NodeTree) → node_unrolled values next x ≡ Some y → Comes next (length (node_ids x)) (length (node_ids y))
 node_comes values next (node id Theta inputs (region_then r no_regions)) y e =
     let c = cond_some (may_unroll values next r) (loop_node id inputs (unrolled next r)) y e in
-    let numbers =
-    (and_parts _ _
+    let numbers : nat_le (next + 2 + node_count r) (2 ^ 32 - 1) ≡ true
+    = (and_parts _ _
     (and_parts (nat_le (region_values r) most_loop_values && not (region_loops r) && nat_le (next + 2 + node_count r) (2 ^ 32 - 1)) (may_change_size values (growth r) 0) c.0).0).1 in
     record {
       more = 2 + node_count r;
