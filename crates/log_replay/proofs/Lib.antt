@@ -2,4 +2,5 @@ mod Stops
 mod FirstFaults
 mod Taken
 mod Made
+mod Series
 mod RightOrFaulty
