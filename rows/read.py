@@ -5,9 +5,9 @@
     read.py text NAME K  writes the source of row K (from 1) of the table NAME to standard output
     read.py try PROGRAM [NAME..]   holds the program against the tables (all, or those named)
 
-PROGRAM has the commands `build IN OUT [--recipe LIST]`, `run IMG [--steps N]`, `check IN LOG IMG` and `gen NUMBER COUNT OUT`; the tables
-`rules` and `graphs` need `--report log`, and the columns on the source run are compared where there is `interp IN [--bound N]`,
-`sessions` where there is `session IN OUT [--recipe LIST] [--workers N]`, `tight` where `build` has `--code tight`.
+PROGRAM has the commands `build IN OUT [--recipe LIST]`, `run IMG [--steps N]`, `check IN LOG IMG`, `session IN OUT [--recipe LIST]
+[--workers N]` and `gen NUMBER COUNT OUT`; the tables `rules` and `graphs` need `--report log`, and the columns on the source run are
+compared where there is `interp IN [--bound N]`, `tight` where `build` has `--code tight`.
 """
 import hashlib
 import os
@@ -481,8 +481,6 @@ class Trial:
                 f.write(b"before")
             recipe = [] if row["recipe"] == "default" else ["--recipe", row["recipe"]]
             got = self.call("session", "in.c", "out.elf", *recipe, "--workers", workers, data=bytes_of(row["script"]))
-            if got[0] == 1:
-                return
             with open(self.file("out.elf"), "rb") as f:
                 image = f.read()
             left = ("-", "-") if image == b"before" else (str(len(image)), hashlib.sha256(image).hexdigest())

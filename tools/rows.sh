@@ -1,6 +1,6 @@
 #!/bin/sh
-# Compares the compiler with tables of expected values: refusals, images, words of images, runs, answers to logs, and what recipes
-# do to each function, as the log tells it. The tables stand in rows/, with the program read.py that reads them and tries them. Every
+# Compares the compiler with tables of expected values: refusals, images, words of images, runs, answers to logs, sessions, and what
+# recipes do to each function, as the log tells it. The tables stand in rows/, with the program read.py that reads them and tries them. Every
 # second build has three workers. It prints each difference.
 set -u
 cd "$(dirname "$0")/.." || exit 1
@@ -27,7 +27,7 @@ class ByWorkers(read.Trial):
 
 
 comparison = ByWorkers(sys.argv[2], sys.argv[3])
-for name in ("refusals", "images", "runs", "undefined", "bounded", "certificates", "examples", "generated"):
+for name in ("refusals", "images", "runs", "undefined", "bounded", "certificates", "sessions", "examples", "generated"):
     for number, row in enumerate(read.table(name), 1):
         getattr(comparison, name)("%s %d" % (name, number), row)
 for name, ending in (("listings", ".list"), ("graphs", ".graph"), ("rules", ".case")):
