@@ -1,7 +1,7 @@
 #!/bin/sh
-# Compares the compiler with tables of expected values: refusals, images, words of images, runs, answers to logs, sessions, and what
-# recipes do to each function, as the log tells it. The tables stand in rows/, with the program read.py that reads them and tries them. Every
-# second build has three workers. It prints each difference.
+# Compares the compiler with tables of expected values: refusals, images, words of images, runs, answers to logs, sessions, and
+# what recipes do to each function, as the log tells it. The tables stand in rows/, with the program read.py that reads them and
+# tries them. Every second build has three workers. It prints each difference.
 set -u
 cd "$(dirname "$0")/.." || exit 1
 script=tools/rows.sh
