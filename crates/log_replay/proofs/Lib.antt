@@ -2,5 +2,5 @@ mod Stops
 mod FirstFaults
 mod Taken
 mod Made
-mod Series
+mod Followed
 mod RightOrFaulty

@@ -1,6 +1,6 @@
 //! Series of steps: those of one rule that follow each other.
 
-ghost use Rattle.std.specs.Prelude.{◌≡◌, ◌+◌, ◌<◌, ◌≤◌, ◌^◌, ◌↔◌, Some, length, map, take, IfOk, IfErr, IsTrue, OnOk};
+ghost use Rattle.std.specs.Prelude.{◌≡◌, ◌+◌, ◌<◌, ◌≤◌, ◌^◌, ◌↔◌, Some, length, map, take, IfOk, IfErr, IsTrue};
 ghost use Rattle.std.specs.Arc.{arc_value};
 ghost use Rattle.g_graph.specs.WellFormed.{IsWellFormed};
 ghost use Rattle.g_pass_def.specs.Answers.{lambdas_of};
@@ -81,19 +81,43 @@ fn made_by_sweep(
     Ok(log.len())
 }
 
-// Makes all steps, one by one. A step is told by its line; the one before the first is given.
+// Makes such a sweep by the rule of the first step, where one is tried for a series of so many.
+fn made_at_once(
+    alloc: Global,
+    lambda: &mut Lambda,
+    callees: &[Arc<Optimised>],
+    steps: &[Step],
+    count: usize,
+) -> Result<usize, NoMemory>
+    requires well_formed { IsWellFormed lambda.old }
+    requires some { 0 < length steps.now }
+    ensures within { IfOk result (λ count. count ≤ length steps.now) }
+    ensures made { IfOk result (λ count.
+        replayed rules (lambdas_of (map arc_value callees.now)) (take count steps.now) lambda.old
+        ≡ Some lambda.new) }
+    ensures kept { IsWellFormed lambda.new }
+{
+    let rule = steps[0].rule;
+    if !is_swept(rule, count, lambda) {
+        return Ok(0);
+    }
+    made_by_sweep(alloc, rule, lambda, callees, steps)
+}
+
+// Makes all steps, one by one, and says how many they are. A step is told by its line; the one
+// before the first is given.
 fn made_singly(
     alloc: Global,
     lambda: &mut Lambda,
     callees: &[Arc<Optimised>],
     steps: &[Step],
     line: u32,
-) -> Result<(), ReplayFault>
+) -> Result<usize, ReplayFault>
     requires well_formed { IsWellFormed lambda.old }
     requires short { line + length steps.now < 2 ^ 32 }
-    ensures made { OnOk result (
-        replayed rules (lambdas_of (map arc_value callees.now)) steps.now lambda.old
-        ≡ Some lambda.new) }
+    ensures made { IfOk result (λ count. (count ≡ length steps.now)
+        × (replayed rules (lambdas_of (map arc_value callees.now)) steps.now lambda.old
+        ≡ Some lambda.new)) }
     ensures kept { IsWellFormed lambda.new }
     ensures fault { IfErr result (λ e.
         StepsFail (lambdas_of (map arc_value callees.now)) steps.now lambda.old line e) }
@@ -105,7 +129,7 @@ fn made_singly(
             });
         }
     }
-    Ok(())
+    Ok(steps.len())
 }
 
 /// Makes the first of these steps, and says how many, at least one: those of a sweep, where a sweep
@@ -131,12 +155,9 @@ pub fn made_series(
         StepsFail (lambdas_of (map arc_value callees.now)) steps.now lambda.old line e) }
 {
     let count = series_length(steps);
-    if is_swept(steps[0].rule, count, lambda) {
-        let swept = made_by_sweep(alloc, steps[0].rule, lambda, callees, steps)?;
-        if swept > 0 {
-            return Ok(swept);
-        }
+    let swept = made_at_once(alloc, lambda, callees, steps, count)?;
+    if swept > 0 {
+        return Ok(swept);
     }
-    made_singly(alloc, lambda, callees, &steps[..count], line)?;
-    Ok(count)
+    made_singly(alloc, lambda, callees, &steps[..count], line)
 }

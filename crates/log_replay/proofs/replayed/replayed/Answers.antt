@@ -2,7 +2,7 @@ use Rattle.std.proofs.Common.{map, arith, length, ap, length-drop}
 use Rattle.std.proofs.lemmas.List.{take_rest}
 use Rattle.std.specs.Arc.{arc_value}
 use Rattle.g_pass_def.specs.Answers.{lambdas_of}
-use Rattle.log_replay.proofs.Series.{series-more, fails-later}
+use Rattle.log_replay.proofs.Followed.{series-more, fails-later}
 use Rattle.log_replay.proofs.replayed.replayed.Goals as goal
 
 pub returns-in-Err-clause-fault : goal.returns-in-Err-clause-fault

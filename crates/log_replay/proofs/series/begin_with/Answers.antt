@@ -3,7 +3,7 @@ use Rattle.std.specs.Bool.{Decides}
 use Rattle.std.proofs.lemmas.Slice.Eq.{slice_eq-Decides}
 use Rattle.g_graph.specs.declared.steps.Step.{Step}
 use Rattle.g_graph.specs.contracts.steps.StepPartialEq.TheImpl as step_eq
-use Rattle.log_replay.proofs.run.begin_with.Goals as goal
+use Rattle.log_replay.proofs.series.begin_with.Goals as goal
 
 -- steps that `==` finds equal are one
 same-steps : (a b : Step) → Decides (step_eq.eq-value.it a b) (a ≡ b)

@@ -1,7 +1,7 @@
--- Series of steps within longer lists of steps.
-use Rattle.std.proofs.Common.{◌≡◌, ◌<◌, ◌≤◌, ◌+◌, ℕ, suc, List, [], ◌∷◌, ◌++◌, length, take, drop, None, Some, slice_get, sym, ap, subst, ◌∙◌, arith, length-take, length-drop, get_or-take, get_or-drop, refl}
+-- Steps that follow others, and where they stop.
+use Rattle.std.proofs.Common.{◌≡◌, ◌<◌, ◌≤◌, ◌+◌, ℕ, zero, suc, List, [], ◌∷◌, ◌++◌, length, take, drop, None, Some, slice_get, sym, ap, subst, ◌∙◌, arith, length-take, length-drop, get_or-take, get_or-drop, refl}
 use Rattle.std.specs.Prelude.{option_and_then, Option}
-use Rattle.std.proofs.lemmas.List.{take-take}
+use Rattle.std.proofs.lemmas.List.{length-take-le, take-take}
 use Rattle.std.proofs.lemmas.Option.{slice_get_within, slice_get-get_or, get_or_from_slice_get}
 use Rattle.std.proofs.Math.Seq.{take-add}
 use Rattle.g_graph.specs.declared.steps.Step.{Step}
@@ -66,7 +66,7 @@ fails-later callees steps rest l k line m (BadStep at) is so_far fails =
     }
 
 -- and so is one of the first steps
-pub fails-in-front : (callees : List PlainLambda) (steps : List Step) (l : PlainLambda) (line m : ℕ) (e : ReplayFault) → m ≤ length steps →
+fails-in-front : (callees : List PlainLambda) (steps : List Step) (l : PlainLambda) (line m : ℕ) (e : ReplayFault) → m ≤ length steps →
     StepsFail callees (take m steps) l line e → StepsFail callees steps l line e
 fails-in-front callees steps l line m (BadCount at) long fails = fails
 fails-in-front callees steps l line m NoMemory long fails = fails
@@ -84,3 +84,22 @@ fails-in-front callees steps l line m (BadStep at) long fails =
         stops = stop.stops;
       };
     }
+
+-- ---- one series, of which nothing is made at once
+
+as-it-was : (callees : List PlainLambda) (steps : List Step) (l k : PlainLambda) (n : ℕ) → n ≤ 0 → replayed rules callees (take n steps) l ≡ Some k → k ≡ l
+as-it-was callees steps l k zero none made = cc
+as-it-was callees steps l k (suc n) none made = absurd (omega (arith, none))
+
+pub made-to-its-end : (callees : List PlainLambda) (steps : List Step) (l k j : PlainLambda) (m n swept : ℕ) → m ≤ length steps → swept ≤ 0 →
+    replayed rules callees (take swept steps) l ≡ Some k → (n ≡ length (take m steps)) × (replayed rules callees (take m steps) k ≡ Some j) →
+    replayed rules callees (take n steps) l ≡ Some j
+made-to-its-end callees steps l k j m n swept long none so_far made =
+    let all : m ≡ n = sym (made.0 ∙ length-take-le m steps long) in
+    subst (λ x. replayed rules callees (take n steps) x ≡ Some j) (as-it-was callees steps l k swept none so_far)
+    (subst (λ i. replayed rules callees (take i steps) k ≡ Some j) all made.1)
+
+pub fails-within : (callees : List PlainLambda) (steps : List Step) (l k : PlainLambda) (line m swept : ℕ) (e : ReplayFault) → m ≤ length steps → swept ≤ 0 →
+    replayed rules callees (take swept steps) l ≡ Some k → StepsFail callees (take m steps) k line e → StepsFail callees steps l line e
+fails-within callees steps l k line m swept e long none so_far fails =
+    subst (λ x. StepsFail callees steps x line e) (as-it-was callees steps l k swept none so_far) (fails-in-front callees steps k line m e long fails)
