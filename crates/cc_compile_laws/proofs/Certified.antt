@@ -1,11 +1,9 @@
 -- The log of a compiled source certifies its image.
 use Rattle.std.specs.Prelude.{option_map, unwrap_or, None}
-use Rattle.std.specs.List.{AllByRecursion, sum_by}
-use Rattle.std.proofs.Common.{◌≡◌, ◌≤◌, ◌<◌, ◌+◌, ◌*◌, ◌^◌, ℕ, zero, suc, List, [], ◌∷◌, map, length, Option, Some, slice_get, refl, sym, ap, subst, ◌∙◌, arith}
-use Rattle.std.proofs.lemmas.List.{length-map}
+use Rattle.std.specs.List.{AllByRecursion}
+use Rattle.std.proofs.Common.{◌≡◌, ◌≤◌, ◌<◌, ℕ, zero, suc, List, [], ◌∷◌, length, Some, slice_get, refl, sym, ap, subst, ◌∙◌, arith}
 use Rattle.std.proofs.lemmas.Option.{same_Some, slice_get-map}
-use Rattle.limits.specs.Limits.{most_functions, most_grown_values, most_program_values, most_sweeps}
-use Rattle.c_ast.specs.Spelling.{kinds}
+use Rattle.limits.specs.Limits.{most_sweeps}
 use Rattle.c_typed.specs.Typed.{FunctionTree, ProgramTree}
 use Rattle.c_typed.specs.WellTyped.{IsWellTyped}
 use Rattle.c_check_def.specs.Limits.{above_limits}
@@ -14,7 +12,8 @@ use Rattle.g_graph.specs.Lists.{IsComplete}
 use Rattle.g_graph.specs.Plain.{PlainLambda, PlainOptimised}
 use Rattle.g_graph.specs.Program.{lambda_values}
 use Rattle.g_build.specs.Passed.{limit_passed}
-use Rattle.g_build_def.specs.Functions.{graph, lambdas_made, names, omega}
+use Rattle.g_build_def.specs.Functions as built
+use Rattle.g_build_def.specs.Functions.{graph, lambdas_made, names}
 use Rattle.g_build_laws.specs.BuiltLaws.{WellTypedAreBuilt}
 use Rattle.g_build_count_laws.specs.Laws.{NumbersAreFew}
 use Rattle.g_pass_order.specs.Calls.{no_lambda}
@@ -30,16 +29,15 @@ use Rattle.c_check_names_laws.specs.NamesLaws.{IsName, FunctionsHaveNames}
 use Rattle.cc_emit_def.specs.Image.{CanEmit, file_of_program}
 use Rattle.cc_watch.specs.Rows.{PlainRow}
 use Rattle.cc_watch.specs.Texts.{log_text}
-use Rattle.cc_source_laws.specs.SourceLaws.{AreBytes, CheckedAreWellTyped, TokensAreInRange}
-use Rattle.cc_source.specs.Accepted.{Accepts}
+use Rattle.cc_source_laws.specs.SourceLaws.{CheckedAreWellTyped, TokensAreInRange}
 use Rattle.cc_source_keeps.specs.Laws.{KeptListsCanBeEmitted, ProgramsCanBeEmitted}
 use Rattle.cc_source_keeps.proofs.lemmas.Small.{graph_may_grow}
 use Rattle.cc_compile.specs.Compiled.{IsImageUnder, rows_of}
-use Rattle.log_check.specs.Log.{IsLogOf, PlainPart, most_log_bytes, parts_of}
-use Rattle.log_replay.specs.Right.{AreRight, steps_of}
+use Rattle.log_check.specs.Log.{IsLogOf, most_log_bytes, parts_of}
+use Rattle.log_replay.specs.Right.{AreRight}
 use Rattle.log_judge.specs.Judgement.{IsRead, IsCertified, Certifies}
 use Rattle.cc_compile_laws.specs.Laws.{LogsCertifyImages}
-use Rattle.cc_compile_laws.proofs.Rows.{rows_from, Fits, AllFit, all_fit, rows_fit, log_bytes, parts_are_rows, names_are, steps_are, counts_are}
+use Rattle.cc_compile_laws.proofs.Rows.{Fits, AllFit, all_fit, rows_fit, log_bytes, parts_are_rows, names_are, steps_are, counts_are}
 
 -- ---- lists by index
 
@@ -63,10 +61,10 @@ module _ (ranked : OrdersAreRanked) (few_steps : AnswersHaveFewSteps) (few_numbe
     (replayed : AnswersAreReplayed) (p : ProgramTree) (typed : IsWellTyped p) (checked : above_limits p ≡ None) (within : limit_passed p.functions ≡ None)
     (named : AllByRecursion (λ (f : FunctionTree). IsName f.name) p.functions) (complete : IsComplete (graph p)) (recipe : List Rule) (sweeps : length recipe ≤ most_sweeps)
     (answers : List PlainOptimised) (made : AreAnswers rules recipe (graph p) answers) where
-  can : CanEmit (omega p) (graph p)
+  can : CanEmit (built.omega p) (graph p)
   can = programs p typed checked within
 
-  can_made : CanEmit (omega p) (lambdas_of answers)
+  can_made : CanEmit (built.omega p) (lambdas_of answers)
   can_made = lists p typed checked within (lambdas_of answers) (kept recipe (graph p) answers complete made)
 
   -- the count before the steps is that of the lambda
@@ -122,7 +120,7 @@ module _ (ranked : OrdersAreRanked) (few_steps : AnswersHaveFewSteps) (few_numbe
     named = names_are recipe p.functions (graph p) answers fit 1;
     lambdas = lambdas_of answers;
     right = right;
-    file = image.file ∙ ap (λ (xs : List PlainOptimised). file_of_program (omega p) (lambdas_of xs)) same;
+    file = image.file ∙ ap (λ (xs : List PlainOptimised). file_of_program (built.omega p) (lambdas_of xs)) same;
   }
 
 pub logs_certify_images : TokensAreInRange → CheckedAreWellTyped → FunctionsHaveNames → WellTypedAreBuilt → NumbersAreFew → ProgramsCanBeEmitted → KeptListsCanBeEmitted → OrdersAreRanked →

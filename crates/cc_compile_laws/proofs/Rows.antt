@@ -1,13 +1,12 @@
 -- The rows of functions, of their lambdas and of what a recipe makes of these, function by function.
-use Rattle.std.specs.Prelude.{zip, slice_index_or, unwrap_or}
+use Rattle.std.specs.Prelude.{zip}
 use Rattle.std.specs.List.{AllByRecursion, sum_by}
-use Rattle.std.proofs.Common.{◌≡◌, ◌≤◌, ◌<◌, ◌+◌, ◌*◌, ◌^◌, ℕ, zero, suc, List, [], ◌∷◌, ◌++◌, map, length, length-append, Some, slice_get, refl, sym, ap, ap₂, ◌∙◌, le_trans, arith}
+use Rattle.std.proofs.Common.{◌≡◌, ◌≤◌, ◌<◌, ◌+◌, ◌*◌, ℕ, zero, suc, List, [], ◌∷◌, map, length, length-append, Some, slice_get, refl, ap, le_trans, arith}
 use Rattle.std.proofs.lemmas.List.Sums.{sum_by-cons}
 use Rattle.std.proofs.lemmas.Nat.{mul-le}
 use Rattle.limits.specs.Limits.{most_lambda_values, most_grown_values, most_sweeps}
 use Rattle.c_typed.specs.Typed.{FunctionTree}
 use Rattle.g_graph.specs.declared.steps.Rule.{Rule}
-use Rattle.g_graph.specs.declared.steps.Step.{Step}
 use Rattle.g_graph.specs.Plain.{PlainLambda, PlainOptimised}
 use Rattle.g_graph.specs.Program.{lambda_values}
 use Rattle.g_pass_def.specs.Answers.{lambda_of, lambdas_of}
@@ -16,8 +15,8 @@ use Rattle.c_check_names_laws.specs.NamesLaws.{IsName}
 use Rattle.cc_watch.specs.Rows.{PlainRow}
 use Rattle.cc_watch.specs.Texts.{row_text, log_text}
 use Rattle.cc_compile.specs.Compiled.{row_of}
-use Rattle.log_check.specs.Log.{IsRow, PlainPart, part_of, parts_from, row_of_part}
-use Rattle.log_replay.specs.Right.{no_part, part_at, HasCounts}
+use Rattle.log_check.specs.Log.{IsRow, PlainPart, parts_from, row_of_part}
+use Rattle.log_replay.specs.Right.{part_at, HasCounts}
 use Rattle.cc_compile_laws.proofs.Texts.{row_length}
 
 abbrev pub rows_from : List FunctionTree → (answers : List PlainOptimised) → List PlainRow
