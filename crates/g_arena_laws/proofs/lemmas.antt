@@ -5,3 +5,8 @@ pub mod Inputs
 pub mod Blocks
 pub mod FromLast
 pub mod Composed
+pub mod There
+pub mod Regional
+pub mod Kept
+pub mod NodeGoes
+pub mod UsesMove

@@ -151,7 +151,7 @@ module _ (n : ℕ) (l : PlainLambda) (w : Within n l) where
   ids_are : region_ids w.around.here ≡ nodes_ids w.before ++ ((n ∷ regions_ids w.regions) ++ nodes_ids w.after)
   ids_are = ap region_ids w.is ∙ nodes_ids-joined w.before (node_then (node n w.op w.inputs w.regions) w.after)
 
-  counts : (m : ℕ) → times m (region_ids w.around.here) ≡ times m (nodes_ids w.before) + (times m (n ∷ regions_ids w.regions) + times m (nodes_ids w.after))
+  pub counts : (m : ℕ) → times m (region_ids w.around.here) ≡ times m (nodes_ids w.before) + (times m (n ∷ regions_ids w.regions) + times m (nodes_ids w.after))
   counts m =
       ap (times m) ids_are ∙ times_append m (nodes_ids w.before) ((n ∷ regions_ids w.regions) ++ nodes_ids w.after)
       ∙ ap (λ k. times m (nodes_ids w.before) + k) (times_append m (n ∷ regions_ids w.regions) (nodes_ids w.after))
@@ -162,16 +162,16 @@ module _ (n : ℕ) (l : PlainLambda) (w : Within n l) where
   pub not_nested : times n (regions_ids w.regions) ≡ 0
   not_nested = omega (arith, w.around.once n, counts n, times_head n (regions_ids w.regions))
 
-  not_before : times n (nodes_ids w.before) ≡ 0
+  pub not_before : times n (nodes_ids w.before) ≡ 0
   not_before = omega (arith, w.around.once n, counts n, times_head n (regions_ids w.regions))
 
-  not_after : times n (nodes_ids w.after) ≡ 0
+  pub not_after : times n (nodes_ids w.after) ≡ 0
   not_after = omega (arith, w.around.once n, counts n, times_head n (regions_ids w.regions))
 
-  place_other : same_node place.node (Some n) ≡ false
+  pub place_other : same_node place.node (Some n) ≡ false
   place_other = other_node place.node n (region_ids w.around.here) w.around.own here_once
 
-  none_parts : IsNone place.node (nodes_ids w.before) × IsNone place.node (regions_ids w.regions) × IsNone place.node (nodes_ids w.after) × (same_node (Some n) place.node ≡ false)
+  pub none_parts : IsNone place.node (nodes_ids w.before) × IsNone place.node (regions_ids w.regions) × IsNone place.node (nodes_ids w.after) × (same_node (Some n) place.node ≡ false)
   none_parts =
       let all = subst (IsNone place.node) ids_are w.around.own in
       let first = none_of_both place.node (nodes_ids w.before) ((n ∷ regions_ids w.regions) ++ nodes_ids w.after) all in
@@ -320,13 +320,18 @@ module _ (n : ℕ) (l : PlainLambda) (w : Within n l) where
       ap (λ ys. w.around.before r ++ (ys ++ w.around.after)) (in_nodes-joined place w.before (node_then (node n w.op inputs rs) as))
       ∙ ap (λ ys. w.around.before r ++ ys) (regroup (in_nodes place w.before) (node_now (kinds_of (outputs_of w.op rs)) inputs rs) (in_regions n 0 rs) (in_nodes place as) w.around.after)
 
-  pub state_start : flat_of l ≡ state (λ o. o) (kinds_of (outputs_of w.op w.regions)) w.inputs w.regions
-  state_start =
-      let x = node_now (kinds_of (outputs_of w.op w.regions)) w.inputs w.regions in
+  pub start_laid : flat_of l ≡ flat_with (record { args = w.args; results = w.results })
+      (in_nodes place w.before ++ (node_now (kinds_of (outputs_of w.op w.regions)) w.inputs w.regions ∷ (in_regions n 0 w.regions ++ (in_nodes place w.after ++ w.around.after))))
+  start_laid =
       let r : FlatRegion = record { args = w.args; results = w.results } in
       ap (λ b. flat_of (record l { body = b })) (sym w.around.is) ∙ w.around.flat_is w.around.here (record { args = refl; results = refl })
       ∙ ap (λ s. with_nodes l (w.around.body (region_flat s)) (w.around.before (region_flat s) ++ (in_region place s ++ w.around.after))) w.is
       ∙ ap (with_nodes l (w.around.body r)) (laid r w.inputs w.regions w.after)
+
+  pub state_start : flat_of l ≡ state (λ o. o) (kinds_of (outputs_of w.op w.regions)) w.inputs w.regions
+  state_start =
+      let x = node_now (kinds_of (outputs_of w.op w.regions)) w.inputs w.regions in
+      start_laid
       ∙ (λ i. flat_with (record { args = w.args; results = sym (map_id w.results) i })
       (sym (inputs_id place (in_nodes place w.before)) i ++ (x ∷ (in_regions n 0 w.regions ++ (sym (inputs_id place (in_nodes place w.after)) i ++ w.around.after)))))
 

@@ -50,7 +50,7 @@ pub inputs_apart : (p : Place) (f : Origin → Origin) (xs : List FlatNode) → 
 inputs_apart p f [] h = refl
 inputs_apart p f (x ∷ xs) h = λ i. input_apart p f x h.0 i ∷ inputs_apart p f xs h.1 i
 
-input_id : (p : Place) (f : Origin → Origin) (x : FlatNode) → (inputs_at p f x).id ≡ x.id
+pub input_id : (p : Place) (f : Origin → Origin) (x : FlatNode) → (inputs_at p f x).id ≡ x.id
 input_id p f x = by (same_place x.home p)
   where
     by : (t : Bool) → (if t then record x { inputs = map f x.inputs } else x).id ≡ x.id
