@@ -10,3 +10,6 @@ pub mod Regional
 pub mod Kept
 pub mod NodeGoes
 pub mod UsesMove
+pub mod Reading
+pub mod Standing
+pub mod Kinds

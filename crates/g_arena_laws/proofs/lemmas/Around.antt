@@ -21,7 +21,7 @@ use Rattle.g_arena_def.specs.Flat.{FlatRegion, FlatNode, Flat, body_place, place
 use Rattle.g_arena_def.specs.Reads.{found, region_at}
 use Rattle.g_arena_def.specs.Edits.{node_with, at_with, region_with}
 use Rattle.g_arena_laws.proofs.lemmas.Outside.{AreOnce, none_first, none_both, at_most_first, times_head, IsOutside, AreOutside, AreApart, IsNone, none_of_both, outside_append, apart_append, outside_apart, place_apart, node_outside, nodes_outside, regions_outside, nodes_apart}
-use Rattle.g_arena_laws.proofs.lemmas.Regions.{IsChangeAt, IsAlike, Among, among_first, among_later, map_twice, has_none, changed_none, changed_here, nodes_unchanged, regions_unchanged}
+use Rattle.g_arena_laws.proofs.lemmas.Regions.{IsChangeAt, IsAlike, Among, among_first, among_later, map_twice, has_none, changed_none, IsHolder, holder_changed, nodes_unchanged, regions_unchanged}
 
 -- ---- the first node of a number, in a list
 
@@ -70,12 +70,12 @@ pub record AroundIn (n : ℕ) {T : Type 0} (flat : T → List FlatNode) (numbers
   pub is : fill here ≡ whole
   pub flat_is : (s : RegionTree) → IsAlike here s → flat (fill s) ≡ before (region_flat s) ++ (in_region (place_in parent index) s ++ after)
   pub same : (s : RegionTree) → IsAlike here s → Same whole (fill s)
-  pub changed_to : (g : RegionTree → Option RegionTree) → IsChangeAt n g → changed g whole ≡ option_map fill (g here)
+  pub changed_to : (s : RegionTree) → IsAlike here s → IsHolder n s → (g : RegionTree → Option RegionTree) → IsChangeAt n g → changed g (fill s) ≡ option_map fill (g s)
   pub sets : (f : FlatRegion → FlatRegion) (r : FlatRegion) (zs : List FlatNode) → node_with parent (region_set index f) (before r ++ zs) ≡ before (f r) ++ zs
   pub gets : (r : FlatRegion) (zs : List FlatNode) → (x : FlatNode) × (found parent (before r ++ zs) ≡ Some x) × (slice_get x.regions index ≡ Some r)
-  pub parts : (test : RegionTree → Bool) → every test whole ≡ true → every_region test here ≡ true
+  pub parts : (s : RegionTree) (test : RegionTree → Bool) → every test (fill s) ≡ true → every_region test s ≡ true
   pub mine : 1 ≤ times parent (numbers whole)
-  pub fewer : (m : ℕ) → times m (region_ids here) ≤ times m (numbers whole)
+  pub fewer : (s : RegionTree) (m : ℕ) → times m (region_ids s) ≤ times m (numbers (fill s))
   pub own : times parent (region_ids here) ≡ 0
   pub apart : (r : FlatRegion) → AreApart (place_in parent index) (before r) × AreApart (place_in parent index) after
   pub outside : (m : ℕ) → 1 ≤ times m (region_ids here) → (r : FlatRegion) → AreOutside m (before r) × AreOutside m after
@@ -91,9 +91,9 @@ wrapped : (n : ℕ) {T U : Type 0} (flat : T → List FlatNode) (flat' : U → L
     (wrap : T → U) (pre post : List FlatNode) →
     ((t : T) → Same whole t → flat' (wrap t) ≡ pre ++ (flat t ++ post)) →
     ((t : T) → Same whole t → Same' (wrap whole) (wrap t)) →
-    ((g : RegionTree → Option RegionTree) → IsChangeAt n g → (o : Option T) → changed g whole ≡ o → changed' g (wrap whole) ≡ option_map wrap o) →
-    ((test : RegionTree → Bool) → every' test (wrap whole) ≡ true → every test whole ≡ true) →
-    ((m : ℕ) → times m (numbers whole) ≤ times m (numbers' (wrap whole))) →
+    ((g : RegionTree → Option RegionTree) → IsChangeAt n g → (t : T) → Same whole t → (o : Option T) → changed g t ≡ o → changed' g (wrap t) ≡ option_map wrap o) →
+    ((t : T) (test : RegionTree → Bool) → every' test (wrap t) ≡ true → every test t ≡ true) →
+    ((t : T) (m : ℕ) → times m (numbers t) ≤ times m (numbers' (wrap t))) →
     ((m : ℕ) → 1 ≤ times m (numbers whole) → AreOutside m pre × AreOutside m post) →
     AroundIn n flat numbers changed every Same whole → AroundIn n flat' numbers' changed' every' Same' (wrap whole)
 wrapped n flat flat' numbers numbers' changed changed' every every' Same Same' whole wrap pre post flat_wrap same_wrap changed_wrap part more out w = record {
@@ -109,16 +109,16 @@ wrapped n flat flat' numbers numbers' changed changed' every every' Same Same' w
       flat_wrap (w.fill s) (w.same s a) ∙ ap (λ ys. pre ++ (ys ++ post)) (w.flat_is s a)
       ∙ regroup pre (w.before (region_flat s)) (in_region (place_in w.parent w.index) s) w.after post;
   same = λ s a. same_wrap (w.fill s) (w.same s a);
-  changed_to = λ g at. changed_wrap g at (option_map w.fill (g w.here)) (w.changed_to g at) ∙ map_twice wrap w.fill (g w.here);
+  changed_to = λ s a q g at. changed_wrap g at (w.fill s) (w.same s a) (option_map w.fill (g s)) (w.changed_to s a q g at) ∙ map_twice wrap w.fill (g s);
   sets = λ f r zs.
       ap (node_with w.parent (region_set w.index f)) (append_assoc pre (w.before r) zs) ∙ node_with_past w.parent (region_set w.index f) pre (w.before r ++ zs) (out w.parent w.mine).0
       ∙ ap (λ ys. pre ++ ys) (w.sets f r zs) ∙ sym (append_assoc pre (w.before (f r)) zs);
   gets = λ r zs.
       let g = w.gets r zs in
       (g.0, ap (found w.parent) (append_assoc pre (w.before r) zs) ∙ found_past w.parent pre (w.before r ++ zs) (out w.parent w.mine).0 ∙ g.1, g.2);
-  parts = λ test e. w.parts test (part test e);
-  mine = omega (arith, w.mine, more w.parent);
-  fewer = λ m. omega (arith, w.fewer m, more m);
+  parts = λ s test e. w.parts s test (part (w.fill s) test e);
+  mine = omega (arith, w.mine, more whole w.parent);
+  fewer = λ s m. omega (arith, w.fewer s m, more (w.fill s) m);
   own = w.own;
   apart = λ r.
       let o = out w.parent w.mine in
@@ -128,15 +128,16 @@ wrapped n flat flat' numbers numbers' changed changed' every every' Same Same' w
         apart_append p w.after post (w.apart r).1 (outside_apart w.parent w.index post o.1),
       );
   outside = λ m e r.
-      let o = out m (omega (arith, e, w.fewer m)) in
+      let o = out m (omega (arith, e, w.fewer w.here m, ap (λ t. times m (numbers t)) w.is)) in
       (outside_append m pre (w.before r) o.0 (w.outside m e r).0, outside_append m w.after post (w.outside m e r).1 o.1);
 }
 
 -- ---- nodes and regions that stay as they are outside the region
 
 -- nodes whose outputs have the kinds of these
-abbrev pub SameNodes : NodeTrees → NodeTrees → Type 0
-SameNodes ns ms = (m p : ℕ) (b : Option Kind) → kind_after ms m p b ≡ kind_after ns m p b
+pub record SameNodes (ns ms : NodeTrees) : Type 0 where
+  pub kinds : (m p : ℕ) (b : Option Kind) → kind_after ms m p b ≡ kind_after ns m p b
+  pub numbers : (m : ℕ) → has_node m ms ≡ has_node m ns
 
 pub record SameRegions (rs ss : RegionTrees) : Type 0 where
   pub flat : regions_flat ss ≡ regions_flat rs
@@ -188,6 +189,7 @@ module _ (n : ℕ) (q : Place) (id : ℕ) (op : Op) (inputs : List Origin) (rs :
       let here : same_node q.node (Some id) ≡ false =
       other_node q.node id ((id ∷ regions_ids rs) ++ nodes_ids xs) none (omega (arith, counts id, times_head id (regions_ids rs))) in
       let place : w.place ≡ w.index = omega (arith, w.number) in
+      let below : (m : ℕ) → times m (region_ids w.here) ≤ times m (regions_ids rs) = λ m. omega (arith, w.fewer w.here m, ap (λ ss. times m (regions_ids ss)) w.is) in
       let outs : (s : RegionTree) → IsAlike w.here s → outputs_of op (w.fill s) ≡ outputs_of op rs = λ s a. outputs_same op rs (w.fill s) (w.first_same s a) (w.given_same s a) in
       record {
         parent = id;
@@ -203,25 +205,28 @@ module _ (n : ℕ) (q : Place) (id : ℕ) (op : Op) (inputs : List Origin) (rs :
             let records = w.records s ∙ ap (λ k. at_with k (λ r. region_flat s) (regions_flat rs)) (sym place) in
             let rest = ap (λ ys. ys ++ in_nodes q xs) (w.flat_is s) ∙ regroup [] w.before (in_region (place_in id w.place) s) w.after (in_nodes q xs) in
             λ i. record { id = id; op = op; inputs = inputs; outputs = kinds_of (outputs i); regions = records i; home = q } ∷ rest i;
-        same = λ s a m p b. let outputs = outs s a in λ i. kind_after xs m p (if id == m then joined (slice_get (outputs i) p) else b);
-        changed_to = λ g at.
-            (λ i. option_or (option_map (λ y. node_then y xs) (option_map (λ ss. node id op inputs ss) (w.changed_to g at i)))
-            (option_map (λ ys. node_then (node id op inputs rs) ys) (nodes_unchanged n g at xs (inner n (omega (arith, w.fewer n, has_times n (nodes_in w.here) w.has, held w.here n))).1 i)))
-            ∙ by (g w.here) w.fill;
+        same = λ s a. record {
+          kinds = λ m p b. let outputs = outs s a in λ i. kind_after xs m p (if id == m then joined (slice_get (outputs i) p) else b);
+          numbers = λ m. refl;
+        };
+        changed_to = λ s a h g at.
+            (λ i. option_or (option_map (λ y. node_then y xs) (option_map (λ ss. node id op inputs ss) (w.changed_to s h g at i)))
+            (option_map (λ ys. node_then (node id op inputs (w.fill s)) ys) (nodes_unchanged n g at xs (inner n (omega (arith, below n, has_times n (nodes_in w.here) w.has, held w.here n))).1 i)))
+            ∙ by (g s) w.fill;
         sets = λ f r zs.
             node_with_here id (region_set w.place f) (x r) (w.before ++ zs) refl
             ∙ (λ i. record { id = id; op = op; inputs = inputs; outputs = kinds_of (outputs_of op rs); regions = at_with_twice w.place f r (regions_flat rs) i; home = q } ∷ (w.before ++ zs));
         gets = λ r zs. (x r, found_here id (x r) (w.before ++ zs) refl, at_with_get w.place r (regions_flat rs) (omega (arith, w.within, place)));
-        parts = λ test e. w.parts test (and_parts (every_in_regions test rs) (every_in_nodes test xs) e).0;
+        parts = λ s test e. w.parts s test (and_parts (every_in_regions test (w.fill s)) (every_in_nodes test xs) e).0;
         mine = omega (arith, counts id, times_head id (regions_ids rs));
-        fewer = λ m. omega (arith, counts m, at_most_first m id (regions_ids rs), w.fewer m);
-        own = omega (arith, own.0, w.fewer id);
+        fewer = λ s m. omega (arith, times_append m (id ∷ regions_ids (w.fill s)) (nodes_ids xs), at_most_first m id (regions_ids (w.fill s)), w.fewer s m);
+        own = omega (arith, own.0, below id);
         apart = λ r. (
           (place_apart id w.place q here, w.apart.0),
           apart_append (place_in id w.place) w.after (in_nodes q xs) w.apart.1 (nodes_apart (place_in id w.place) q xs (place_apart id w.place q here) own.1),
         );
         outside = λ m e r.
-            let i = inner m (omega (arith, e, w.fewer m)) in
+            let i = inner m (omega (arith, e, below m)) in
             let o = w.outside m e i.0 in
             (((i.0, i.2), o.0), outside_append m w.after (in_nodes q xs) o.1 (nodes_outside m q xs i.1 i.2));
       }
@@ -242,16 +247,19 @@ module _ (n : ℕ) (q : Place) (id : ℕ) (op : Op) (inputs : List Origin) (rs :
       (λ ss s.
       let outputs = outputs_same op rs ss s.first s.given in
       λ i. record { id = id; op = op; inputs = inputs; outputs = kinds_of (outputs i); regions = s.flat i; home = q } ∷ (in_regions id 0 ss ++ in_nodes q xs))
-      (λ ss s m p b. let outputs = outputs_same op rs ss s.first s.given in λ i. kind_after xs m p (if id == m then joined (slice_get (outputs i) p) else b))
-      (λ g at o e.
-      (λ i. option_or (option_map (λ y. node_then y xs) (option_map (λ ss. node id op inputs ss) (e i)))
-      (option_map (λ ys. node_then (node id op inputs rs) ys) (nodes_unchanged n g at xs (inner n (times_here w)).1 i))) ∙ by o)
-      (λ test e. (and_parts (every_in_regions test rs) (every_in_nodes test xs) e).0)
-      (λ m. omega (arith, counts m, at_most_first m id (regions_ids rs)))
+      (λ ss s. record {
+        kinds = λ m p b. let outputs = outputs_same op rs ss s.first s.given in λ i. kind_after xs m p (if id == m then joined (slice_get (outputs i) p) else b);
+        numbers = λ m. refl;
+      })
+      (λ g at ss s o e.
+      (λ i. option_or (option_map (λ y. node_then y xs) (option_map (λ qs. node id op inputs qs) (e i)))
+      (option_map (λ ys. node_then (node id op inputs ss) ys) (nodes_unchanged n g at xs (inner n (times_here w)).1 i))) ∙ by o)
+      (λ ss test e. (and_parts (every_in_regions test ss) (every_in_nodes test xs) e).0)
+      (λ ss m. omega (arith, times_append m (id ∷ regions_ids ss) (nodes_ids xs), at_most_first m id (regions_ids ss)))
       (λ m e. let i = inner m e in (((i.0, i.2), tt), nodes_outside m q xs i.1 i.2)) w
     where
       times_here : RegionsAround n id 0 rs → 1 ≤ times n (regions_ids rs)
-      times_here w = below w.here w.has (w.fewer n)
+      times_here w = below w.here w.has (omega (arith, w.fewer w.here n, ap (λ ss. times n (regions_ids ss)) w.is))
         where
           below : (r : RegionTree) → has_node n (nodes_in r) ≡ true → times n (region_ids r) ≤ times n (regions_ids rs) → 1 ≤ times n (regions_ids rs)
           below (region args ns results) h f = omega (arith, has_times n ns h, f)
@@ -265,11 +273,11 @@ module _ (n : ℕ) (q : Place) (id : ℕ) (op : Op) (inputs : List Origin) (rs :
   node_later absent w =
       wrapped n (in_nodes q) (in_nodes q) nodes_ids nodes_ids nodes_changed nodes_changed every_in_nodes every_in_nodes SameNodes SameNodes xs (λ ys. node_then (node id op inputs rs) ys) (in_node q (node id op inputs rs)) []
       (λ ys s. ap (λ zs. in_node q (node id op inputs rs) ++ zs) (sym (append-nil (in_nodes q ys))))
-      (λ ys s m p b. s m p (if id == m then joined (slice_get (outputs_of op rs) p) else b))
-      (λ g at o e. λ i. option_or (option_map (λ y. node_then y xs) (option_map (λ ss. node id op inputs ss) (regions_unchanged n g at rs (none_first n id (regions_ids rs) absent).1 i)))
-      (option_map (λ ys. node_then (node id op inputs rs) ys) (e i)))
-      (λ test e. (and_parts (every_in_regions test rs) (every_in_nodes test xs) e).1)
-      (λ m. omega (arith, counts m))
+      (λ ys s. record { kinds = λ m p b. s.kinds m p (if id == m then joined (slice_get (outputs_of op rs) p) else b); numbers = λ m. ap (λ t. (id == m) || t) (s.numbers m) })
+      (λ g at ys s o e. λ i. option_or (option_map (λ y. node_then y ys) (option_map (λ ss. node id op inputs ss) (regions_unchanged n g at rs (none_first n id (regions_ids rs) absent).1 i)))
+      (option_map (λ zs. node_then (node id op inputs rs) zs) (e i)))
+      (λ ys test e. (and_parts (every_in_regions test rs) (every_in_nodes test ys) e).1)
+      (λ ys m. omega (arith, times_append m (id ∷ regions_ids rs) (nodes_ids ys)))
       (λ m e.
       (node_outside m q (node id op inputs rs) (omega (arith, once m, counts m, e)) (other_node q.node m ((id ∷ regions_ids rs) ++ nodes_ids xs) none (omega (arith, counts m, e))), tt)) w
 
@@ -290,12 +298,12 @@ module _ (n parent first : ℕ) (args : List Kind) (ns : NodeTrees) (results : L
       wrapped n (in_nodes (place_in parent first)) (in_regions parent first) nodes_ids regions_ids nodes_changed regions_changed every_in_nodes every_in_regions SameNodes SameRegions ns (λ ms. region_then (region args ms results) rs) []
       (in_regions parent (suc first) rs)
       (λ ms s. refl)
-      (λ ms s. record { flat = refl; first = refl; given = λ i. map (kind_of args (λ m p. s m p None i)) results })
-      (λ g at o c.
-      (λ i. option_or (option_map (λ t. region_then t rs) (option_or (at r h i) (option_map (λ ms. region args ms results) (c i))))
-      (option_map (λ ss. region_then r ss) (regions_unchanged n g at rs (omega (arith, once n, sums n, e)) i))) ∙ by o)
-      (λ test c. (and_parts (test r) (every_in_nodes test ns) (and_parts (test r && every_in_nodes test ns) (every_in_regions test rs) c).0).1)
-      (λ m. omega (arith, sums m))
+      (λ ms s. record { flat = refl; first = refl; given = λ i. map (kind_of args (λ m p. s.kinds m p None i)) results })
+      (λ g at ms s o c.
+      (λ i. option_or (option_map (λ t. region_then t rs) (option_or (at (region args ms results) (s.numbers n ∙ h) i) (option_map (λ qs. region args qs results) (c i))))
+      (option_map (λ ss. region_then (region args ms results) ss) (regions_unchanged n g at rs (omega (arith, once n, sums n, e)) i))) ∙ by o)
+      (λ ms test c. (and_parts (test (region args ms results)) (every_in_nodes test ms) (and_parts (test (region args ms results) && every_in_nodes test ms) (every_in_regions test rs) c).0).1)
+      (λ ms m. omega (arith, times_append m (nodes_ids ms) (regions_ids rs)))
       (λ m f. (tt, regions_outside m parent (suc first) rs (omega (arith, once m, sums m, f)) (not_parent m (omega (arith, sums m, f))))) w
     where
       by : (o : Option NodeTrees) → option_or (option_map (λ t. region_then t rs) (option_map (λ ms. region args ms results) o)) None ≡ option_map (λ ms. region_then (region args ms results) rs) o
@@ -308,19 +316,26 @@ module _ (n parent first : ℕ) (args : List Kind) (ns : NodeTrees) (results : L
       (in_nodes (place_in parent first) ns) []
       (λ ss s. ap (λ zs. in_nodes (place_in parent first) ns ++ zs) (sym (append-nil (in_regions parent (suc first) ss))))
       (λ ss s. record { flat = ap (λ ys. region_flat r ∷ ys) s.flat; first = refl; given = refl })
-      (λ g at o c. λ i. option_or (option_map (λ t. region_then t rs) (changed_none g args ns results (at r (has_none n ns e)) (nodes_unchanged n g at ns e) i))
-      (option_map (λ ss. region_then r ss) (c i)))
-      (λ test c. (and_parts (every_region test r) (every_in_regions test rs) c).1)
-      (λ m. omega (arith, sums m))
+      (λ g at ss s o c. λ i. option_or (option_map (λ t. region_then t ss) (changed_none g args ns results (at r (has_none n ns e)) (nodes_unchanged n g at ns e) i))
+      (option_map (λ qs. region_then r qs) (c i)))
+      (λ ss test c. (and_parts (every_region test r) (every_in_regions test ss) c).1)
+      (λ ss m. omega (arith, times_append m (nodes_ids ns) (regions_ids ss)))
       (λ m f. (nodes_outside m (place_in parent first) ns (omega (arith, once m, sums m, f)) (not_parent m (omega (arith, sums m, f))), tt)) w
 
 -- ---- each node stands in a region
 
+-- node n itself stands among these nodes, or the region that holds it below them
+abbrev NodesHold : (n : ℕ) → Place → NodeTrees → Type 0
+NodesHold n q ns = (has_node n ns ≡ true) ⊎ ((has_node n ns ≡ false) × NodesAround n q ns)
+
+abbrev RegionsHold : (n parent first : ℕ) → RegionTrees → Type 0
+RegionsHold n parent first rs = Among n parent first rs ⊎ RegionsAround n parent first rs
+
 mutual
-  nodes_around : (n : ℕ) (q : Place) (ns : NodeTrees) → AreOnce (nodes_ids ns) → IsNone q.node (nodes_ids ns) → 1 ≤ times n (nodes_ids ns) →
-      (has_node n ns ≡ true) ⊎ ((has_node n ns ≡ false) × NodesAround n q ns)
+  nodes_around : (n : ℕ) (q : Place) (ns : NodeTrees) → AreOnce (nodes_ids ns) → IsNone q.node (nodes_ids ns) → 1 ≤ times n (nodes_ids ns) → NodesHold n q ns
   nodes_around n q no_nodes once none e = absurd (omega (arith, e))
-  nodes_around n q (node_then (node id op inputs rs) xs) once none e = by_own (id == n) refl
+  nodes_around n q (node_then (node id op inputs rs) xs) once none e =
+      by_own (id == n) refl (λ o i t. nodes_around n q xs o i t) (λ o i t. regions_around n id 0 rs o i t)
     where
       counted : times n ((id ∷ regions_ids rs) ++ nodes_ids xs) ≡ times n (id ∷ regions_ids rs) + times n (nodes_ids xs)
       counted = times_append n (id ∷ regions_ids rs) (nodes_ids xs)
@@ -331,54 +346,51 @@ mutual
       nested : (m : ℕ) → times m (regions_ids rs) ≤ 1
       nested m = omega (arith, once m, times_append m (id ∷ regions_ids rs) (nodes_ids xs), at_most_first m id (regions_ids rs))
 
-      by_rest : (has_node n xs ≡ true) ⊎ ((has_node n xs ≡ false) × NodesAround n q xs) → (id == n) ≡ false → times n (regions_ids rs) ≡ 0 →
-          (has_node n (node_then (node id op inputs rs) xs) ≡ true) ⊎ ((has_node n (node_then (node id op inputs rs) xs) ≡ false) × NodesAround n q (node_then (node id op inputs rs) xs))
+      by_rest : NodesHold n q xs → (id == n) ≡ false → times n (regions_ids rs) ≡ 0 → NodesHold n q (node_then (node id op inputs rs) xs)
       by_rest (inl h) t c = inl (λ i. t i || h i)
       by_rest (inr w) t c =
           inr ((λ i. t i || w.0 i), node_later n q id op inputs rs xs once none (times_cons n id (regions_ids rs) ∙ (λ i. (if t i then 1 else 0) + c i)) w.1)
 
-      by_regions : Among n id 0 rs ⊎ RegionsAround n id 0 rs → (id == n) ≡ false → 1 ≤ times n (regions_ids rs) →
-          (has_node n (node_then (node id op inputs rs) xs) ≡ true) ⊎ ((has_node n (node_then (node id op inputs rs) xs) ≡ false) × NodesAround n q (node_then (node id op inputs rs) xs))
+      by_regions : RegionsHold n id 0 rs → (id == n) ≡ false → 1 ≤ times n (regions_ids rs) → NodesHold n q (node_then (node id op inputs rs) xs)
       by_regions (inl w) t c = inr ((λ i. t i || has_none n xs (inner n q id op inputs rs xs once none n c).1 i), node_first n q id op inputs rs xs once none w)
       by_regions (inr w) t c = inr ((λ i. t i || has_none n xs (inner n q id op inputs rs xs once none n c).1 i), node_deep n q id op inputs rs xs once none w)
 
-      by_count : (c : ℕ) → times n (regions_ids rs) ≡ c → (id == n) ≡ false →
-          (has_node n (node_then (node id op inputs rs) xs) ≡ true) ⊎ ((has_node n (node_then (node id op inputs rs) xs) ≡ false) × NodesAround n q (node_then (node id op inputs rs) xs))
-      by_count zero c t =
+      by_count : (c : ℕ) → times n (regions_ids rs) ≡ c → (id == n) ≡ false → (AreOnce (nodes_ids xs) → IsNone q.node (nodes_ids xs) → 1 ≤ times n (nodes_ids xs) → NodesHold n q xs) →
+          (AreOnce (regions_ids rs) → times id (regions_ids rs) ≡ 0 → 1 ≤ times n (regions_ids rs) → RegionsHold n id 0 rs) → NodesHold n q (node_then (node id op inputs rs) xs)
+      by_count zero c t f g =
           let head : times n (id ∷ regions_ids rs) ≡ 0 = times_cons n id (regions_ids rs) ∙ (λ i. (if t i then 1 else 0) + c i) in
-          by_rest (nodes_around n q xs later (none_of_both q.node (id ∷ regions_ids rs) (nodes_ids xs) none).1 (omega (arith, e, counted, head))) t c
-      by_count (suc k) c t =
+          by_rest (f later (none_of_both q.node (id ∷ regions_ids rs) (nodes_ids xs) none).1 (omega (arith, e, counted, head))) t c
+      by_count (suc k) c t f g =
           let own : times id (regions_ids rs) ≡ 0 = omega (arith, once id, times_append id (id ∷ regions_ids rs) (nodes_ids xs), times_head id (regions_ids rs)) in
-          by_regions (regions_around n id 0 rs nested own (omega (arith, c))) t (omega (arith, c))
+          by_regions (g nested own (omega (arith, c))) t (omega (arith, c))
 
-      by_own : (t : Bool) → (id == n) ≡ t →
-          (has_node n (node_then (node id op inputs rs) xs) ≡ true) ⊎ ((has_node n (node_then (node id op inputs rs) xs) ≡ false) × NodesAround n q (node_then (node id op inputs rs) xs))
-      by_own true t = inl (ap (λ b. b || has_node n xs) t)
-      by_own false t = by_count (times n (regions_ids rs)) refl t
+      by_own : (t : Bool) → (id == n) ≡ t → (AreOnce (nodes_ids xs) → IsNone q.node (nodes_ids xs) → 1 ≤ times n (nodes_ids xs) → NodesHold n q xs) →
+          (AreOnce (regions_ids rs) → times id (regions_ids rs) ≡ 0 → 1 ≤ times n (regions_ids rs) → RegionsHold n id 0 rs) → NodesHold n q (node_then (node id op inputs rs) xs)
+      by_own true t f g = inl (ap (λ b. b || has_node n xs) t)
+      by_own false t f g = by_count (times n (regions_ids rs)) refl t f g
 
-  regions_around : (n parent first : ℕ) (rs : RegionTrees) → AreOnce (regions_ids rs) → times parent (regions_ids rs) ≡ 0 → 1 ≤ times n (regions_ids rs) → Among n parent first rs ⊎ RegionsAround n parent first rs
+  regions_around : (n parent first : ℕ) (rs : RegionTrees) → AreOnce (regions_ids rs) → times parent (regions_ids rs) ≡ 0 → 1 ≤ times n (regions_ids rs) → RegionsHold n parent first rs
   regions_around n parent first no_regions once own e = absurd (omega (arith, e))
-  regions_around n parent first (region_then (region args ns results) rs) once own e = by_count (times n (nodes_ids ns)) refl
+  regions_around n parent first (region_then (region args ns results) rs) once own e =
+      by_count (times n (nodes_ids ns)) refl (λ o i t. nodes_around n (place_in parent first) ns o i t) (λ o i t. regions_around n parent (suc first) rs o i t)
     where
       both : (times parent (nodes_ids ns) ≡ 0) × (times parent (regions_ids rs) ≡ 0)
       both = none_both parent (nodes_ids ns) (regions_ids rs) own
 
-      by_nodes : (has_node n ns ≡ true) ⊎ ((has_node n ns ≡ false) × NodesAround n (place_in parent first) ns) → 1 ≤ times n (nodes_ids ns) →
-          Among n parent first (region_then (region args ns results) rs) ⊎ RegionsAround n parent first (region_then (region args ns results) rs)
+      by_nodes : NodesHold n (place_in parent first) ns → 1 ≤ times n (nodes_ids ns) → RegionsHold n parent first (region_then (region args ns results) rs)
       by_nodes (inl h) c = inl (among_first n parent first args ns results rs once own h)
       by_nodes (inr w) c = inr (region_deep n parent first args ns results rs once own c w.0 w.1)
 
-      by_rest : Among n parent (suc first) rs ⊎ RegionsAround n parent (suc first) rs → times n (nodes_ids ns) ≡ 0 →
-          Among n parent first (region_then (region args ns results) rs) ⊎ RegionsAround n parent first (region_then (region args ns results) rs)
+      by_rest : RegionsHold n parent (suc first) rs → times n (nodes_ids ns) ≡ 0 → RegionsHold n parent first (region_then (region args ns results) rs)
       by_rest (inl w) c = inl (among_later n parent first args ns results rs once own c w)
       by_rest (inr w) c = inr (region_later n parent first args ns results rs once own c w)
 
-      by_count : (c : ℕ) → times n (nodes_ids ns) ≡ c → Among n parent first (region_then (region args ns results) rs) ⊎ RegionsAround n parent first (region_then (region args ns results) rs)
-      by_count zero c =
-          by_rest (regions_around n parent (suc first) rs (λ m. omega (arith, once m, times_append m (nodes_ids ns) (regions_ids rs))) both.1
-          (omega (arith, e, c, times_append n (nodes_ids ns) (regions_ids rs)))) c
-      by_count (suc k) c =
-          by_nodes (nodes_around n (place_in parent first) ns (λ m. omega (arith, once m, times_append m (nodes_ids ns) (regions_ids rs))) both.0 (omega (arith, c))) (omega (arith, c))
+      by_count : (c : ℕ) → times n (nodes_ids ns) ≡ c → (AreOnce (nodes_ids ns) → times parent (nodes_ids ns) ≡ 0 → 1 ≤ times n (nodes_ids ns) → NodesHold n (place_in parent first) ns) →
+          (AreOnce (regions_ids rs) → times parent (regions_ids rs) ≡ 0 → 1 ≤ times n (regions_ids rs) → RegionsHold n parent (suc first) rs) → RegionsHold n parent first (region_then (region args ns results) rs)
+      by_count zero c f g =
+          by_rest (g (λ m. omega (arith, once m, times_append m (nodes_ids ns) (regions_ids rs))) both.1 (omega (arith, e, c, times_append n (nodes_ids ns) (regions_ids rs)))) c
+      by_count (suc k) c f g =
+          by_nodes (f (λ m. omega (arith, once m, times_append m (nodes_ids ns) (regions_ids rs))) both.0 (omega (arith, c))) (omega (arith, c))
 
 -- ---- in a lambda
 
@@ -397,11 +409,11 @@ pub record Around (n : ℕ) (l : PlainLambda) : Type 0 where
   pub has : has_node n (nodes_in here) ≡ true
   pub is : fill here ≡ l.body
   pub flat_is : (s : RegionTree) → IsAlike here s → flat_of (record l { body = fill s }) ≡ with_nodes l (body (region_flat s)) (before (region_flat s) ++ (in_region place s ++ after))
-  pub changed_to : (g : RegionTree → Option RegionTree) → IsChangeAt n g → region_changed g l.body ≡ option_map fill (g here)
+  pub changed_to : (s : RegionTree) → IsAlike here s → IsHolder n s → (g : RegionTree → Option RegionTree) → IsChangeAt n g → region_changed g (fill s) ≡ option_map fill (g s)
   pub sets : (f : FlatRegion → FlatRegion) (r : FlatRegion) (zs : List FlatNode) → region_with place f (with_nodes l (body r) (before r ++ zs)) ≡ with_nodes l (body (f r)) (before (f r) ++ zs)
   pub gets : (r : FlatRegion) (zs : List FlatNode) → region_at place (with_nodes l (body r) (before r ++ zs)) ≡ Some r
-  pub parts : (test : RegionTree → Bool) → every_region test l.body ≡ true → every_region test here ≡ true
-  pub fewer : (m : ℕ) → times m (region_ids here) ≤ times m (region_ids l.body)
+  pub parts : (s : RegionTree) (test : RegionTree → Bool) → every_region test (fill s) ≡ true → every_region test s ≡ true
+  pub fewer : (s : RegionTree) (m : ℕ) → times m (region_ids s) ≤ times m (region_ids (fill s))
   pub once : AreOnce (region_ids here)
   pub own : IsNone place.node (region_ids here)
   pub apart : (r : FlatRegion) → AreApart place (before r) × AreApart place after
@@ -423,11 +435,11 @@ module _ (n : ℕ) (l : PlainLambda) (args : List Kind) (ns : NodeTrees) (result
     has = h;
     is = sym is;
     flat_is = λ s a. ap (with_nodes l (region_flat s)) (sym (append-nil (in_region body_place s)));
-    changed_to = λ g at. ap (region_changed g) is ∙ changed_here n g at args ns results once h ∙ sym (map_same (g (region args ns results)));
+    changed_to = λ s a q g at. holder_changed n g at s q ∙ sym (map_same (g s));
     sets = λ f r zs. refl;
     gets = λ r zs. refl;
-    parts = λ test e. ap (every_region test) (sym is) ∙ e;
-    fewer = λ m. omega (arith, ap (λ r. times m (region_ids r)) is);
+    parts = λ s test e. e;
+    fewer = λ s m. omega arith;
     once = once;
     own = tt;
     apart = λ r. (tt, tt);
@@ -445,14 +457,14 @@ module _ (n : ℕ) (l : PlainLambda) (args : List Kind) (ns : NodeTrees) (result
     has = w.has;
     is = ap (λ ms. region args ms results) w.is ∙ sym is;
     flat_is = λ s a. ap (with_nodes l (record { args = args; results = results })) (w.flat_is s a);
-    changed_to = λ g at.
-        ap (region_changed g) is ∙ (λ i. option_or (at (region args ns results) h i) (option_map (λ ms. region args ms results) (w.changed_to g at i)))
-        ∙ map_twice (λ ms. region args ms results) w.fill (g w.here);
+    changed_to = λ s a q g at.
+        (λ i. option_or (at (region args (w.fill s) results) ((w.same s a).numbers n ∙ h) i) (option_map (λ ms. region args ms results) (w.changed_to s a q g at i)))
+        ∙ map_twice (λ ms. region args ms results) w.fill (g s);
     sets = λ f r zs. ap (with_nodes l (record { args = args; results = results })) (w.sets f r zs);
     gets = λ r zs. let g = w.gets r zs in ap (option_and_then (λ (x : FlatNode). slice_get x.regions w.index)) g.1 ∙ g.2;
-    parts = λ test e. w.parts test (and_parts (test (region args ns results)) (every_in_nodes test ns) (ap (every_region test) (sym is) ∙ e)).1;
-    fewer = λ m. omega (arith, w.fewer m, ap (λ r. times m (region_ids r)) is);
-    once = λ m. omega (arith, once m, w.fewer m);
+    parts = λ s test e. w.parts s test (and_parts (test (region args (w.fill s) results)) (every_in_nodes test (w.fill s)) e).1;
+    fewer = λ s m. w.fewer s m;
+    once = λ m. omega (arith, once m, w.fewer w.here m, ap (λ ms. times m (nodes_ids ms)) w.is);
     own = w.own;
     apart = w.apart;
     outside = w.outside;
@@ -472,3 +484,34 @@ around n l once e = by l.body refl
     by : (r : RegionTree) → l.body ≡ r → Around n l
     by (region args ns results) is =
         around_within n l args ns results is (λ m. omega (arith, once m, ap (λ r. times m (region_ids r)) is)) (omega (arith, e, ap (λ r. times n (region_ids r)) is))
+
+pub alike_then : (r s t : RegionTree) → IsAlike r s → IsAlike s t → IsAlike r t
+alike_then r s t a b = record { args = b.args ∙ a.args; results = b.results ∙ a.results }
+
+-- around another region in its place, with fewer numbers
+pub around_other : (n : ℕ) (l : PlainLambda) (z : Around n l) (s : RegionTree) → IsAlike z.here s → has_node n (nodes_in s) ≡ true → ((m : ℕ) → times m (region_ids s) ≤ times m (region_ids z.here)) →
+    Around n (record l { body = z.fill s })
+around_other n l z s alike has fewer = record {
+  place = z.place;
+  here = s;
+  body = z.body;
+  before = z.before;
+  after = z.after;
+  fill = z.fill;
+  has = has;
+  is = refl;
+  flat_is = λ t a. z.flat_is t (alike_then z.here s t alike a);
+  changed_to = λ t a q g at. z.changed_to t (alike_then z.here s t alike a) q g at;
+  sets = z.sets;
+  gets = z.gets;
+  parts = z.parts;
+  fewer = z.fewer;
+  once = λ m. omega (arith, z.once m, fewer m);
+  own = by z.place.node z.own;
+  apart = z.apart;
+  outside = λ m e r. z.outside m (omega (arith, e, fewer m)) r;
+}
+  where
+    by : (o : Option ℕ) → IsNone o (region_ids z.here) → IsNone o (region_ids s)
+    by None h = tt
+    by (Some m) h = omega (arith, h, fewer m)

@@ -313,12 +313,12 @@ module _ (n : ℕ) (l : PlainLambda) (w : Within n l) where
   regroup : (b : List FlatNode) (x : FlatNode) (m a q : List FlatNode) → (b ++ ((x ∷ m) ++ a)) ++ q ≡ b ++ (x ∷ (m ++ (a ++ q)))
   regroup b x m a q = append_assoc b ((x ∷ m) ++ a) q ∙ ap (λ ys. b ++ (x ∷ ys)) (append_assoc m a q)
 
-  laid : (r : FlatRegion) (inputs : List Origin) (rs : RegionTrees) (as : NodeTrees) →
-      w.around.before r ++ (in_nodes place (joined_nodes w.before (node_then (node n w.op inputs rs) as)) ++ w.around.after)
-      ≡ w.around.before r ++ (in_nodes place w.before ++ (node_now (kinds_of (outputs_of w.op rs)) inputs rs ∷ (in_regions n 0 rs ++ (in_nodes place as ++ w.around.after))))
-  laid r inputs rs as =
-      ap (λ ys. w.around.before r ++ (ys ++ w.around.after)) (in_nodes-joined place w.before (node_then (node n w.op inputs rs) as))
-      ∙ ap (λ ys. w.around.before r ++ ys) (regroup (in_nodes place w.before) (node_now (kinds_of (outputs_of w.op rs)) inputs rs) (in_regions n 0 rs) (in_nodes place as) w.around.after)
+  laid : (r : FlatRegion) (inputs : List Origin) (rs : RegionTrees) (ends : NodeTrees) →
+      w.around.before r ++ (in_nodes place (joined_nodes w.before (node_then (node n w.op inputs rs) ends)) ++ w.around.after)
+      ≡ w.around.before r ++ (in_nodes place w.before ++ (node_now (kinds_of (outputs_of w.op rs)) inputs rs ∷ (in_regions n 0 rs ++ (in_nodes place ends ++ w.around.after))))
+  laid r inputs rs ends =
+      ap (λ ys. w.around.before r ++ (ys ++ w.around.after)) (in_nodes-joined place w.before (node_then (node n w.op inputs rs) ends))
+      ∙ ap (λ ys. w.around.before r ++ ys) (regroup (in_nodes place w.before) (node_now (kinds_of (outputs_of w.op rs)) inputs rs) (in_regions n 0 rs) (in_nodes place ends) w.around.after)
 
   pub start_laid : flat_of l ≡ flat_with (record { args = w.args; results = w.results })
       (in_nodes place w.before ++ (node_now (kinds_of (outputs_of w.op w.regions)) w.inputs w.regions ∷ (in_regions n 0 w.regions ++ (in_nodes place w.after ++ w.around.after))))

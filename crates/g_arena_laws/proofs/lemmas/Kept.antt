@@ -1,5 +1,5 @@
 -- Variables of a node that go, and the lambda without them.
-use Rattle.std.proofs.Common.{◌≡◌, ◌≤◌, ◌<◌, ◌+◌, ℕ, zero, suc, ◌==◌, ◌&&◌, ◌||◌, not, nat_lt, Bool, true, false, Option, None, Some, option_map, unwrap_or, List, [], ◌∷◌, ◌++◌, map, length, refl, sym, ap, subst, ◌∙◌, arith, le_of_eq}
+use Rattle.std.proofs.Common.{◌≡◌, ◌≤◌, ◌<◌, ◌+◌, ◌-◌, ℕ, zero, suc, ◌==◌, ◌&&◌, ◌||◌, not, nat_lt, Bool, true, false, Option, None, Some, option_map, unwrap_or, List, [], ◌∷◌, ◌++◌, map, length, refl, sym, ap, subst, ◌∙◌, arith, le_of_eq}
 use Rattle.std.specs.Prelude.{if◌then◌else◌}
 use Rattle.std.specs.List.{remove}
 use Rattle.std.proofs.lemmas.Bool.{and_parts, or_parts, or_from}
@@ -29,14 +29,14 @@ use Rattle.g_arena_def.specs.Edits.{inputs_at, output_less}
 use Rattle.r_edit.specs.Uses.{nodes_read, is_read}
 use Rattle.r_edit.specs.Places.{kept, drops_values, place_after}
 use Rattle.r_edit.specs.Exits.{regions_giving, output_after, is_gone_output, exits_kept}
-use Rattle.r_edit.specs.Entries.{regions_taking, some_reads, entries_kept}
+use Rattle.r_edit.specs.Entries.{regions_taking, some_reads, is_gone_argument, entries_kept}
 use Rattle.r_edit.specs.Variables.{region_looping, loop_reads, variables_kept}
 use Rattle.r_edit.proofs.lemmas.Kept.{kept_map, some_fewer}
 use Rattle.r_edit.proofs.lemmas.Placed.{not_before, read_after}
 use Rattle.r_edit.proofs.lemmas.Exits.{giving_joined}
 use Rattle.r_edit.proofs.lemmas.ExitsFit.{gives_kept, exits_are, exits_kept_fit}
 use Rattle.r_edit.proofs.lemmas.Entries.{taking_joined}
-use Rattle.r_edit.proofs.lemmas.EntriesFit.{entries_kept_fit, gives_same}
+use Rattle.r_edit.proofs.lemmas.EntriesFit.{region_takes, entries_kept_fit}
 use Rattle.r_edit.proofs.lemmas.Variables.{looping_joined}
 use Rattle.r_edit.proofs.lemmas.VariablesFit.{variables_kept_fit}
 use Rattle.g_arena_laws.specs.Removals.{from_last, exits_removed, entries_removed, variables_removed, exit_removed, entry_removed, variable_removed}
@@ -94,7 +94,7 @@ nodes_fixed n f h (node_then (node id op inputs rs) ns) e =
     λ i. node_then (node id op (all_fixed n f h inputs both.0 i) rs) (nodes_fixed n f h ns both.1 i)
 
 -- the interface of a region that is kept
-alike_by : (r s r' s' : RegionTree) → r' ≡ r → s' ≡ s → (objects : ℕ) → KeptWithin objects r s → IsAlike r' s'
+pub alike_by : (r s r' s' : RegionTree) → r' ≡ r → s' ≡ s → (objects : ℕ) → KeptWithin objects r s → IsAlike r' s'
 alike_by r s r' s' e f objects k = record {
   args = ap args_of f ∙ k.kept.args ∙ ap args_of (sym e);
   results = ap result_kinds f ∙ k.kept.results ∙ ap result_kinds (sym e);
@@ -107,28 +107,46 @@ count_same xs ks e = le_of_eq (ap length e ∙ counted ks)
     counted [] = refl
     counted (j ∷ js) = ap suc (counted js)
 
--- A node of a well-formed lambda, in its region.
-module _ (n : ℕ) (l : PlainLambda) (w : Within n l) (well : IsWellFormed l) where
+-- the node with its regions, and the region
+abbrev pub own_node : (n : ℕ) (l : PlainLambda) → Within n l → NodeTree
+own_node n l w = node n w.op w.inputs w.regions
+
+abbrev pub whole_region : (n : ℕ) (l : PlainLambda) → Within n l → RegionTree
+whole_region n l w = region w.args (joined_nodes w.before (node_then (own_node n l w) w.after)) w.results
+
+-- The region that holds the node is well formed, with all that is nested in it.
+pub record Fitting (n : ℕ) (l : PlainLambda) (w : Within n l) : Type 0 where
+  pub region : every_region (region_fits (length l.objects)) (whole_region n l w) ≡ true
+  pub numbers : Numbered l.next (region_ids (whole_region n l w))
+
+pub numbers_of : (l : PlainLambda) → IsWellFormed l → Numbered l.next (region_ids l.body)
+numbers_of l well =
+    let to_fits = (and_parts (body_fits l && numbers_fit l && every_region (region_fits (length l.objects)) l.body) (all_of (λ o. leaves_fit o.size 0 o.leaves) l.objects) well).0 in
+    let to_numbers = (and_parts (body_fits l && numbers_fit l) (every_region (region_fits (length l.objects)) l.body) to_fits).0 in
+    numbers_numbered l (and_parts (body_fits l) (numbers_fit l) to_numbers).1
+
+pub fitting : (n : ℕ) (l : PlainLambda) (w : Within n l) → IsWellFormed l → Fitting n l w
+fitting n l w well =
+    let test = region_fits (length l.objects) in
+    record {
+      region = subst (λ r. every_region test r ≡ true) w.is (w.around.parts w.around.here test (ap (every_region test) w.around.is ∙ regions_of_well_formed l well));
+      numbers = numbered_fewer l.next (region_ids l.body) (region_ids (whole_region n l w))
+          (λ m. omega (arith, w.around.fewer w.around.here m, ap (λ r. times m (region_ids r)) w.around.is, ap (λ r. times m (region_ids r)) w.is)) (numbers_of l well);
+    }
+
+-- A node of a lambda, in its region.
+module _ (n : ℕ) (l : PlainLambda) (w : Within n l) (well : Fitting n l w) where
   abbrev pub own : NodeTree
-  own = node n w.op w.inputs w.regions
+  own = own_node n l w
 
   abbrev pub whole : RegionTree
-  whole = region w.args (joined_nodes w.before (node_then own w.after)) w.results
+  whole = whole_region n l w
 
-  pub fits : every_region (region_fits (length l.objects)) whole ≡ true
-  fits = subst (λ r. every_region (region_fits (length l.objects)) r ≡ true) w.is (w.around.parts (region_fits (length l.objects)) (regions_of_well_formed l well))
-
-  numbers : Numbered l.next (region_ids l.body)
-  numbers =
-      let to_fits = (and_parts (body_fits l && numbers_fit l && every_region (region_fits (length l.objects)) l.body) (all_of (λ o. leaves_fit o.size 0 o.leaves) l.objects) well).0 in
-      let to_numbers = (and_parts (body_fits l && numbers_fit l) (every_region (region_fits (length l.objects)) l.body) to_fits).0 in
-      numbers_numbered l (and_parts (body_fits l) (numbers_fit l) to_numbers).1
+  abbrev pub fits : every_region (region_fits (length l.objects)) whole ≡ true
+  fits = well.region
 
   pub here : NodeFits (length l.objects) w.args w.before own w.after
-  here =
-      node_fits_here (length l.objects) l.next w.args w.before own w.after w.results fits
-      (numbered_fewer l.next (region_ids l.body) (nodes_ids (joined_nodes w.before (node_then own w.after)))
-      (λ m. omega (arith, w.around.fewer m, ap (λ r. times m (region_ids r)) w.is)) numbers)
+  here = node_fits_here (length l.objects) l.next w.args w.before own w.after w.results fits well.numbers
 
   pub none_first : has_node n w.before ≡ false
   none_first = not_before (length l.objects) w.args w.before own w.after here
@@ -180,10 +198,25 @@ module _ (n : ℕ) (l : PlainLambda) (w : Within n l) (well : IsWellFormed l) wh
 
 -- ---- a Gamma
 
+-- a Gamma gives the same where arguments go that no region reads
+gives_same : (ts : List Bool) (objects : ℕ) (rs : RegionTrees) → some_reads ts rs ≡ false → every_in_regions (region_fits objects) rs ≡ true →
+    outputs_of Gamma (regions_taking ts rs) ≡ outputs_of Gamma rs
+gives_same ts objects no_regions u h = refl
+gives_same ts objects (region_then (region args nodes results) rs) u h =
+    (region_takes ts objects args nodes results (or_parts (is_read (is_gone_argument ts) (region args nodes results)) (some_reads ts rs) u).0
+    (and_parts (every_region (region_fits objects) (region args nodes results)) (every_in_regions (region_fits objects) rs) h).0).0
+
 module _ (n : ℕ) (l : PlainLambda) (z : Around n l) (args : List Kind) (before : NodeTrees) (inputs : List Origin) (rs : RegionTrees) (after : NodeTrees) (results : List Origin)
-    (is : z.here ≡ region args (joined_nodes before (node_then (node n Gamma inputs rs) after)) results) (well : IsWellFormed l) (ts : List Bool) where
+    (is : z.here ≡ region args (joined_nodes before (node_then (node n Gamma inputs rs) after)) results) where
+  abbrev pub gamma_within : Within n l
+  gamma_within = record { around = z; args = args; before = before; op = Gamma; inputs = inputs; regions = rs; after = after; results = results; is = is }
+
+
+module _ (n : ℕ) (l : PlainLambda) (z : Around n l) (args : List Kind) (before : NodeTrees) (inputs : List Origin) (rs : RegionTrees) (after : NodeTrees) (results : List Origin)
+    (is : z.here ≡ region args (joined_nodes before (node_then (node n Gamma inputs rs) after)) results) (well : Fitting n l (gamma_within n l z args before inputs rs after results is))
+    (ts : List Bool) where
   abbrev gamma : Within n l
-  gamma = record { around = z; args = args; before = before; op = Gamma; inputs = inputs; regions = rs; after = after; results = results; is = is }
+  gamma = gamma_within n l z args before inputs rs after results is
 
   abbrev whole_gamma : RegionTree
   whole_gamma = region args (joined_nodes before (node_then (node n Gamma inputs rs) after)) results
@@ -242,13 +275,18 @@ inputs_are_left n k (false ∷ ts) outs is h =
     ∙ ap (λ js. remove js k) (all_fixed n (output_less n k c) (λ o e. less_fixes n k c o e) left fewer)
 
 module _ (n : ℕ) (l : PlainLambda) (z : Around n l) (args : List Kind) (before : NodeTrees) (inputs : List Origin) (own : List Kind) (nodes : NodeTrees) (outs : List Origin) (after : NodeTrees)
-    (results : List Origin) (is : z.here ≡ region args (joined_nodes before (node_then (node n Theta inputs (region_then (region own nodes outs) no_regions)) after)) results) (well : IsWellFormed l)
-    (ts : List Bool) where
+    (results : List Origin) (is : z.here ≡ region args (joined_nodes before (node_then (node n Theta inputs (region_then (region own nodes outs) no_regions)) after)) results) where
+  abbrev pub theta_within : Within n l
+  theta_within = record { around = z; args = args; before = before; op = Theta; inputs = inputs; regions = region_then (region own nodes outs) no_regions; after = after; results = results; is = is }
+
+module _ (n : ℕ) (l : PlainLambda) (z : Around n l) (args : List Kind) (before : NodeTrees) (inputs : List Origin) (own : List Kind) (nodes : NodeTrees) (outs : List Origin) (after : NodeTrees)
+    (results : List Origin) (is : z.here ≡ region args (joined_nodes before (node_then (node n Theta inputs (region_then (region own nodes outs) no_regions)) after)) results)
+    (well : Fitting n l (theta_within n l z args before inputs own nodes outs after results is)) (ts : List Bool) where
   abbrev rs : RegionTrees
   rs = region_then (region own nodes outs) no_regions
 
   abbrev theta : Within n l
-  theta = record { around = z; args = args; before = before; op = Theta; inputs = inputs; regions = rs; after = after; results = results; is = is }
+  theta = theta_within n l z args before inputs own nodes outs after results is
 
   abbrev whole_theta : RegionTree
   whole_theta = region args (joined_nodes before (node_then (node n Theta inputs rs) after)) results

@@ -8,7 +8,7 @@ use Rattle.g_graph.specs.declared.op.Origin.{Origin}
 use Rattle.g_graph.specs.Plain.{RegionTree, region, NodeTree, node, NodeTrees, no_nodes, node_then, RegionTrees, no_regions, region_then, PlainLambda}
 use Rattle.g_graph.specs.Ids.{region_ids, nodes_ids, regions_ids}
 use Rattle.g_graph.specs.Signatures.{outputs_of}
-use Rattle.g_graph.specs.WellFormed.{kinds_of, IsWellFormed}
+use Rattle.g_graph.specs.WellFormed.{kinds_of}
 use Rattle.g_graph.specs.Splice.{joined_nodes}
 use Rattle.g_graph.proofs.lemmas.Indexes.{same_number_true}
 use Rattle.g_graph.proofs.lemmas.Unique.{times, times_append, times_cons}
@@ -23,7 +23,7 @@ use Rattle.g_arena_laws.proofs.lemmas.Outside.{times_head, at_most_first, AreOut
 use Rattle.g_arena_laws.proofs.lemmas.Regions.{IsAlike}
 use Rattle.g_arena_laws.proofs.lemmas.Around.{Around, with_nodes, other_node}
 use Rattle.g_arena_laws.proofs.lemmas.Blocks.{Within, in_nodes-joined, place, flat_with, node_now, here_once, not_before, place_other, counts, start_laid}
-use Rattle.g_arena_laws.proofs.lemmas.Kept.{alike_by, fits, here, none_first}
+use Rattle.g_arena_laws.proofs.lemmas.Kept.{alike_by, Fitting, here, none_first}
 
 -- ---- nodes that went
 
@@ -122,13 +122,13 @@ module _ (n : ℕ) (l : PlainLambda) (w : Within n l) where
       behind [] f = tt
       behind (x ∷ xs) f = none x.home.node (λ m e. (f m e).0.1)
 
-      by : (as : NodeTrees) → ((m : ℕ) → 1 ≤ times m (region_ids w.around.here) → (r : FlatRegion) → AreOutside m (w.around.before r) × AreOutside m w.around.after) →
-          StaysAt gone (in_nodes (place n l w) as ++ w.around.after)
+      by : (ends : NodeTrees) → ((m : ℕ) → 1 ≤ times m (region_ids w.around.here) → (r : FlatRegion) → AreOutside m (w.around.before r) × AreOutside m w.around.after) →
+          StaysAt gone (in_nodes (place n l w) ends ++ w.around.after)
       by no_nodes f = behind w.around.after (λ m e. (f m e (record { args = w.args; results = w.results })).1)
-      by (node_then (node id op inputs rs) as) f =
+      by (node_then (node id op inputs rs) ends) f =
           none w.around.place.node (λ m e. other_node w.around.place.node m (region_ids w.around.here) w.around.own e)
 
-  pub node_goes : (well : IsWellFormed l) → GivesNoState (node n w.op w.inputs w.regions) → is_read (is_output_of n) w.around.here ≡ false →
+  pub node_goes : (well : Fitting n l w) → GivesNoState (node n w.op w.inputs w.regions) → is_read (is_output_of n) w.around.here ≡ false →
       node_removed n (flat_of l) ≡ flat_of (record l { body = w.around.fill (region_without n w.around.here) })
   node_goes well silent unread =
       let p = place n l w in
@@ -142,7 +142,7 @@ module _ (n : ℕ) (l : PlainLambda) (w : Within n l) where
       let left = region w.args (joined_nodes w.before w.after) w.results in
       let now : left ≡ region_without n whole =
       ap (λ ns. region w.args ns w.results) (sym (without_joined n w.before own w.after (none_first n l w well) (same_number_true n))) in
-      let fit = without_kept (length l.objects) w.args w.before own w.after w.results (here n l w well) (fits n l w well) silent (subst (λ s. is_read (is_output_of n) s ≡ false) w.is unread) in
+      let fit = without_kept (length l.objects) w.args w.before own w.after w.results (here n l w well) well.region silent (subst (λ s. is_read (is_output_of n) s ≡ false) w.is unread) in
       let alike : IsAlike w.around.here left = alike_by whole (region_without n whole) w.around.here left w.is now (length l.objects) fit in
       let gone = in_gone n 0 (n ∷ []) w.regions xs (ap (λ t. t || false) (same_number_true n)) in
       let cut : nodes_without n (x ∷ (inner ++ xs)) ≡ xs =

@@ -64,20 +64,19 @@ pub below_unchanged : (n : ℕ) (g : RegionTree → Option RegionTree) → IsCha
 below_unchanged n g at no_nodes once h = refl
 below_unchanged n g at (node_then (node id op inputs rs) xs) once h =
     let sum = times_append n (id ∷ regions_ids rs) (nodes_ids xs) in
-    by (id == n) refl (once n) sum h
+    by (id == n) refl (once n) sum h (λ q. below_unchanged n g at xs (λ m. omega (arith, once m, times_append m (id ∷ regions_ids rs) (nodes_ids xs))) q)
   where
     by : (t : Bool) → (id == n) ≡ t → times n ((id ∷ regions_ids rs) ++ nodes_ids xs) ≤ 1 → times n ((id ∷ regions_ids rs) ++ nodes_ids xs) ≡ times n (id ∷ regions_ids rs) + times n (nodes_ids xs) →
-        (t || has_node n xs) ≡ true → nodes_changed g (node_then (node id op inputs rs) xs) ≡ None
-    by true e o s q =
+        (t || has_node n xs) ≡ true → (has_node n xs ≡ true → nodes_changed g xs ≡ None) → nodes_changed g (node_then (node id op inputs rs) xs) ≡ None
+    by true e o s q later =
         let head = times_cons n id (regions_ids rs) ∙ ap (λ t. (if t then 1 else 0) + times n (regions_ids rs)) e in
         let own = regions_unchanged n g at rs (omega (arith, o, s, head)) in
         let rest = nodes_unchanged n g at xs (omega (arith, o, s, head)) in
         λ i. option_or (option_map (λ y. node_then y xs) (option_map (λ ss. node id op inputs ss) (own i))) (option_map (λ ys. node_then (node id op inputs rs) ys) (rest i))
-    by false e o s q =
+    by false e o s q later =
         let head = at_most_first n id (regions_ids rs) in
         let own = regions_unchanged n g at rs (omega (arith, o, s, head, has_times n xs q)) in
-        let later : AreOnce (nodes_ids xs) = λ m. omega (arith, once m, times_append m (id ∷ regions_ids rs) (nodes_ids xs)) in
-        let rest = below_unchanged n g at xs later q in
+        let rest = later q in
         λ i. option_or (option_map (λ y. node_then y xs) (option_map (λ ss. node id op inputs ss) (own i))) (option_map (λ ys. node_then (node id op inputs rs) ys) (rest i))
 
 pub changed_here : (n : ℕ) (g : RegionTree → Option RegionTree) → IsChangeAt n g → (args : List Kind) (ns : NodeTrees) (results : List Origin) → AreOnce (nodes_ids ns) → has_node n ns ≡ true →
@@ -87,6 +86,14 @@ changed_here n g at args ns results once h = by (g (region args ns results)) (be
     by : (o : Option RegionTree) → nodes_changed g ns ≡ None → option_or o (option_map (λ ms. region args ms results) (nodes_changed g ns)) ≡ o
     by None e = ap (option_map (λ ms. region args ms results)) e
     by (Some s) e = refl
+
+-- a region that itself holds node n, and whose numbers stand once
+pub record IsHolder (n : ℕ) (r : RegionTree) : Type 0 where
+  pub has : has_node n (nodes_in r) ≡ true
+  pub once : AreOnce (region_ids r)
+
+pub holder_changed : (n : ℕ) (g : RegionTree → Option RegionTree) → IsChangeAt n g → (r : RegionTree) → IsHolder n r → region_changed g r ≡ g r
+holder_changed n g at (region args ns results) h = changed_here n g at args ns results h.once h.has
 
 -- ---- a region among those of its parent
 
@@ -115,9 +122,9 @@ pub record Among (n parent first : ℕ) (rs : RegionTrees) : Type 0 where
   pub within : index < length (regions_flat rs)
   pub first_same : (s : RegionTree) → IsAlike here s → first_args (fill s) ≡ first_args rs
   pub given_same : (s : RegionTree) → IsAlike here s → outputs_of Gamma (fill s) ≡ outputs_of Gamma rs
-  pub changed_to : (g : RegionTree → Option RegionTree) → IsChangeAt n g → regions_changed g rs ≡ option_map fill (g here)
-  pub parts : (test : RegionTree → Bool) → every_in_regions test rs ≡ true → every_region test here ≡ true
-  pub fewer : (m : ℕ) → times m (region_ids here) ≤ times m (regions_ids rs)
+  pub changed_to : (s : RegionTree) → IsHolder n s → (g : RegionTree → Option RegionTree) → IsChangeAt n g → regions_changed g (fill s) ≡ option_map fill (g s)
+  pub parts : (s : RegionTree) (test : RegionTree → Bool) → every_in_regions test (fill s) ≡ true → every_region test s ≡ true
+  pub fewer : (s : RegionTree) (m : ℕ) → times m (region_ids s) ≤ times m (regions_ids (fill s))
   pub outside : (m : ℕ) → 1 ≤ times m (region_ids here) → (parent == m) ≡ false → AreOutside m before × AreOutside m after
   pub apart : AreApart (place_in parent place) before × AreApart (place_in parent place) after
 
@@ -139,12 +146,12 @@ among_first n parent first args ns results rs once own h = record {
   within = omega arith;
   first_same = λ s a. a.args;
   given_same = λ s a. a.results;
-  changed_to = λ g at.
-      (λ i. option_or (option_map (λ s. region_then s rs) (changed_here n g at args ns results (λ m. omega (arith, once m, times_append m (nodes_ids ns) (regions_ids rs))) h i))
-      (option_map (λ ss. region_then (region args ns results) ss) (regions_unchanged n g at rs (omega (arith, once n, times_append n (nodes_ids ns) (regions_ids rs), has_times n ns h)) i)))
-      ∙ last_none (option_map (λ s. region_then s rs) (g (region args ns results)));
-  parts = λ test e. (and_parts (every_region test (region args ns results)) (every_in_regions test rs) e).0;
-  fewer = λ m. omega (arith, times_append m (nodes_ids ns) (regions_ids rs));
+  changed_to = λ s q g at.
+      (λ i. option_or (option_map (λ t. region_then t rs) (holder_changed n g at s q i))
+      (option_map (λ ss. region_then s ss) (regions_unchanged n g at rs (omega (arith, once n, times_append n (nodes_ids ns) (regions_ids rs), has_times n ns h)) i)))
+      ∙ last_none (option_map (λ t. region_then t rs) (g s));
+  parts = λ s test e. (and_parts (every_region test s) (every_in_regions test rs) e).0;
+  fewer = λ s m. omega (arith, times_append m (region_ids s) (regions_ids rs));
   outside = λ m e p. (tt, regions_outside m parent (suc first) rs (omega (arith, once m, e, times_append m (nodes_ids ns) (regions_ids rs))) p);
   apart = (tt, later_apart parent first (suc first) rs (omega arith) (none_both parent (nodes_ids ns) (regions_ids rs) own).1);
 }
@@ -169,17 +176,17 @@ among_later n parent first args ns results rs once own none w =
       within = omega (arith, w.within);
       first_same = λ s a. refl;
       given_same = λ s a. refl;
-      changed_to = λ g at.
-          (λ i. option_or (option_map (λ s. region_then s rs) (changed_none g args ns results (at r (has_none n ns none)) (nodes_unchanged n g at ns none) i))
-          (option_map (λ ss. region_then r ss) (w.changed_to g at i)))
-          ∙ map_twice (λ ss. region_then r ss) w.fill (g w.here);
-      parts = λ test e. w.parts test (and_parts (every_region test r) (every_in_regions test rs) e).1;
-      fewer = λ m. omega (arith, w.fewer m, times_append m (nodes_ids ns) (regions_ids rs));
+      changed_to = λ s q g at.
+          (λ i. option_or (option_map (λ t. region_then t (w.fill s)) (changed_none g args ns results (at r (has_none n ns none)) (nodes_unchanged n g at ns none) i))
+          (option_map (λ ss. region_then r ss) (w.changed_to s q g at i)))
+          ∙ map_twice (λ ss. region_then r ss) w.fill (g s);
+      parts = λ s test e. w.parts s test (and_parts (every_region test r) (every_in_regions test (w.fill s)) e).1;
+      fewer = λ s m. omega (arith, w.fewer s m, times_append m (nodes_ids ns) (regions_ids (w.fill s)));
       outside = λ m e p.
           let rest = w.outside m e p in
           (
             outside_append m (in_nodes (place_in parent first) ns) w.before
-            (nodes_outside m (place_in parent first) ns (omega (arith, once m, e, w.fewer m, times_append m (nodes_ids ns) (regions_ids rs))) p) rest.0,
+            (nodes_outside m (place_in parent first) ns (omega (arith, once m, e, w.fewer w.here m, ap (λ ss. times m (regions_ids ss)) w.is, times_append m (nodes_ids ns) (regions_ids rs))) p) rest.0,
             rest.1,
           );
       apart = (

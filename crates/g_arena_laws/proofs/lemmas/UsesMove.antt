@@ -39,35 +39,34 @@ at_with_still (suc k) f x (y ∷ xs) e h = ap (λ ys. y ∷ ys) (at_with_still k
 node_with_both : (n k : ℕ) (f g : FlatRegion → FlatRegion) (xs : List FlatNode) →
     node_with n (region_set k f) (node_with n (region_set k g) xs) ≡ node_with n (region_set k (λ r. f (g r))) xs
 node_with_both n k f g [] = refl
-node_with_both n k f g (x ∷ xs) = by (x.id == n) refl
+node_with_both n k f g (x ∷ xs) = by (x.id == n) refl (node_with_both n k f g xs)
   where
-    by : (t : Bool) → (x.id == n) ≡ t →
+    by : (t : Bool) → (x.id == n) ≡ t → node_with n (region_set k f) (node_with n (region_set k g) xs) ≡ node_with n (region_set k (λ r. f (g r))) xs →
         node_with n (region_set k f) (if t then region_set k g x ∷ xs else x ∷ node_with n (region_set k g) xs)
         ≡ (if t then region_set k (λ r. f (g r)) x ∷ xs else x ∷ node_with n (region_set k (λ r. f (g r))) xs)
-    by true e = ap (λ t. if t then region_set k f (region_set k g x) ∷ xs else region_set k g x ∷ node_with n (region_set k f) xs) e ∙ (λ i. record x { regions = at_with_both k f g x.regions i } ∷ xs)
-    by false e =
-        ap (λ t. if t then region_set k f x ∷ node_with n (region_set k g) xs else x ∷ node_with n (region_set k f) (node_with n (region_set k g) xs)) e ∙ ap (λ ys. x ∷ ys) (node_with_both n k f g xs)
+    by true e h = ap (λ t. if t then region_set k f (region_set k g x) ∷ xs else region_set k g x ∷ node_with n (region_set k f) xs) e ∙ (λ i. record x { regions = at_with_both k f g x.regions i } ∷ xs)
+    by false e h = ap (λ t. if t then region_set k f x ∷ node_with n (region_set k g) xs else x ∷ node_with n (region_set k f) (node_with n (region_set k g) xs)) e ∙ ap (λ ys. x ∷ ys) h
 
 abbrev region_found : (n k : ℕ) → List FlatNode → Option FlatRegion
 region_found n k xs = option_and_then (λ (x : FlatNode). slice_get x.regions k) (found n xs)
 
 node_with_got : (n k : ℕ) (f : FlatRegion → FlatRegion) (r : FlatRegion) (xs : List FlatNode) → region_found n k xs ≡ Some r → region_found n k (node_with n (region_set k f) xs) ≡ Some (f r)
 node_with_got n k f r [] e = absurd cc
-node_with_got n k f r (x ∷ xs) e = by (x.id == n) refl e
+node_with_got n k f r (x ∷ xs) e = by (x.id == n) refl e (λ d. node_with_got n k f r xs d)
   where
-    by : (t : Bool) → (x.id == n) ≡ t → option_and_then (λ (y : FlatNode). slice_get y.regions k) (if t then Some x else found n xs) ≡ Some r →
+    by : (t : Bool) → (x.id == n) ≡ t → option_and_then (λ (y : FlatNode). slice_get y.regions k) (if t then Some x else found n xs) ≡ Some r → (region_found n k xs ≡ Some r → region_found n k (node_with n (region_set k f) xs) ≡ Some (f r)) →
         region_found n k (if t then region_set k f x ∷ xs else x ∷ node_with n (region_set k f) xs) ≡ Some (f r)
-    by true t d = ap (λ u. option_and_then (λ (y : FlatNode). slice_get y.regions k) (if u then Some (region_set k f x) else found n xs)) t ∙ at_with_got k f r x.regions d
-    by false t d = ap (λ u. option_and_then (λ (y : FlatNode). slice_get y.regions k) (if u then Some x else found n (node_with n (region_set k f) xs))) t ∙ node_with_got n k f r xs d
+    by true t d h = ap (λ u. option_and_then (λ (y : FlatNode). slice_get y.regions k) (if u then Some (region_set k f x) else found n xs)) t ∙ at_with_got k f r x.regions d
+    by false t d h = ap (λ u. option_and_then (λ (y : FlatNode). slice_get y.regions k) (if u then Some x else found n (node_with n (region_set k f) xs))) t ∙ h d
 
 node_with_still : (n k : ℕ) (f : FlatRegion → FlatRegion) (r : FlatRegion) (xs : List FlatNode) → region_found n k xs ≡ Some r → f r ≡ r → node_with n (region_set k f) xs ≡ xs
 node_with_still n k f r [] e h = refl
-node_with_still n k f r (x ∷ xs) e h = by (x.id == n) e
+node_with_still n k f r (x ∷ xs) e h = by (x.id == n) e (λ d. node_with_still n k f r xs d h)
   where
-    by : (t : Bool) → option_and_then (λ (y : FlatNode). slice_get y.regions k) (if t then Some x else found n xs) ≡ Some r →
+    by : (t : Bool) → option_and_then (λ (y : FlatNode). slice_get y.regions k) (if t then Some x else found n xs) ≡ Some r → (region_found n k xs ≡ Some r → node_with n (region_set k f) xs ≡ xs) →
         (if t then region_set k f x ∷ xs else x ∷ node_with n (region_set k f) xs) ≡ x ∷ xs
-    by true d = λ i. record x { regions = at_with_still k f r x.regions d h i } ∷ xs
-    by false d = ap (λ ys. x ∷ ys) (node_with_still n k f r xs d h)
+    by true d g = λ i. record x { regions = at_with_still k f r x.regions d h i } ∷ xs
+    by false d g = ap (λ ys. x ∷ ys) (g d)
 
 pub region_with_both : (p : Place) (f g : FlatRegion → FlatRegion) (a : Flat) → region_with p f (region_with p g a) ≡ region_with p (λ r. f (g r)) a
 region_with_both p f g a = by p.node
@@ -113,27 +112,28 @@ module _ (p : Place) (from to : Origin) (other : same_origin from to ≡ false) 
   -- in a list of origins
   none_moved : (os : List Origin) → times from os ≡ 0 → map move os ≡ os
   none_moved [] e = refl
-  none_moved (o ∷ os) e = by (same_origin from o) e
+  none_moved (o ∷ os) e = by (same_origin from o) e (λ d. none_moved os d)
     where
-      by : (t : Bool) → (if t then 1 else 0) + times from os ≡ 0 → (if t then to else o) ∷ map move os ≡ o ∷ os
-      by true d = absurd (omega (arith, d))
-      by false d = ap (λ ys. o ∷ ys) (none_moved os (omega (arith, d)))
+      by : (t : Bool) → (if t then 1 else 0) + times from os ≡ 0 → (times from os ≡ 0 → map move os ≡ os) → (if t then to else o) ∷ map move os ≡ o ∷ os
+      by true d h = absurd (omega (arith, d))
+      by false d h = ap (λ ys. o ∷ ys) (h (omega (arith, d)))
 
   first_then : (os : List Origin) → map move (first_with from to os) ≡ map move os
   first_then [] = refl
-  first_then (o ∷ os) = by (same_origin from o) refl
+  first_then (o ∷ os) = by (same_origin from o) refl (first_then os)
     where
-      by : (t : Bool) → same_origin from o ≡ t → map move (if t then to ∷ os else o ∷ first_with from to os) ≡ (if t then to else o) ∷ map move os
-      by true e = ap (λ t. (if t then to else to) ∷ map move os) other
-      by false e = λ i. (if e i then to else o) ∷ first_then os i
+      by : (t : Bool) → same_origin from o ≡ t → map move (first_with from to os) ≡ map move os → map move (if t then to ∷ os else o ∷ first_with from to os) ≡ (if t then to else o) ∷ map move os
+      by true e h = ap (λ t. (if t then to else to) ∷ map move os) other
+      by false e h = λ i. (if e i then to else o) ∷ h i
 
   one_less : (os : List Origin) → some_of (same_origin from) os ≡ true → suc (times from (first_with from to os)) ≡ times from os
   one_less [] e = absurd cc
-  one_less (o ∷ os) e = by (same_origin from o) refl e
+  one_less (o ∷ os) e = by (same_origin from o) refl e (λ d. one_less os d)
     where
-      by : (t : Bool) → same_origin from o ≡ t → (t || some_of (same_origin from) os) ≡ true → suc (times from (if t then to ∷ os else o ∷ first_with from to os)) ≡ (if t then 1 else 0) + times from os
-      by true q d = ap (λ t. suc ((if t then 1 else 0) + times from os)) other ∙ omega arith
-      by false q d = ap (λ t. suc ((if t then 1 else 0) + times from (first_with from to os))) q ∙ omega (arith, one_less os d)
+      by : (t : Bool) → same_origin from o ≡ t → (t || some_of (same_origin from) os) ≡ true →
+          (some_of (same_origin from) os ≡ true → suc (times from (first_with from to os)) ≡ times from os) → suc (times from (if t then to ∷ os else o ∷ first_with from to os)) ≡ (if t then 1 else 0) + times from os
+      by true q d h = ap (λ t. suc ((if t then 1 else 0) + times from os)) other ∙ omega arith
+      by false q d h = ap (λ t. suc ((if t then 1 else 0) + times from (first_with from to os))) q ∙ omega (arith, h d)
 
   some_times : (os : List Origin) → some_of (same_origin from) os ≡ false → times from os ≡ 0
   some_times [] e = refl
@@ -159,25 +159,26 @@ module _ (p : Place) (from to : Origin) (other : same_origin from to ≡ false) 
 
   inputs_then : (xs : List FlatNode) → map (inputs_at p move) (input_changed p from to xs) ≡ map (inputs_at p move) xs
   inputs_then [] = refl
-  inputs_then (x ∷ xs) = by (same_place x.home p) (some_of (same_origin from) x.inputs) refl
+  inputs_then (x ∷ xs) = by (same_place x.home p) (some_of (same_origin from) x.inputs) refl (inputs_then xs)
     where
-      by : (t u : Bool) → same_place x.home p ≡ t →
+      by : (t u : Bool) → same_place x.home p ≡ t → map (inputs_at p move) (input_changed p from to xs) ≡ map (inputs_at p move) xs →
           map (inputs_at p move) (if t && u then record x { inputs = first_with from to x.inputs } ∷ xs else x ∷ input_changed p from to xs) ≡ inputs_at p move x ∷ map (inputs_at p move) xs
-      by true true e =
+      by true true e h =
           λ i. (input_here p move (record x { inputs = first_with from to x.inputs }) e ∙ (λ j. record x { inputs = first_then x.inputs j }) ∙ sym (input_here p move x e)) i ∷ map (inputs_at p move) xs
-      by true false e = ap (λ ys. inputs_at p move x ∷ ys) (inputs_then xs)
-      by false u e = ap (λ ys. inputs_at p move x ∷ ys) (inputs_then xs)
+      by true false e h = ap (λ ys. inputs_at p move x ∷ ys) h
+      by false u e h = ap (λ ys. inputs_at p move x ∷ ys) h
 
   inputs_less : (xs : List FlatNode) → some_of (uses_at p from) xs ≡ true → suc (input_uses p from (input_changed p from to xs)) ≡ input_uses p from xs
   inputs_less [] e = absurd cc
-  inputs_less (x ∷ xs) e = by (same_place x.home p) (some_of (same_origin from) x.inputs) refl refl e
+  inputs_less (x ∷ xs) e = by (same_place x.home p) (some_of (same_origin from) x.inputs) refl refl e (λ d. inputs_less xs d)
     where
       by : (t u : Bool) → same_place x.home p ≡ t → some_of (same_origin from) x.inputs ≡ u → ((t && u) || some_of (uses_at p from) xs) ≡ true →
+          (some_of (uses_at p from) xs ≡ true → suc (input_uses p from (input_changed p from to xs)) ≡ input_uses p from xs) →
           suc (input_uses p from (if t && u then record x { inputs = first_with from to x.inputs } ∷ xs else x ∷ input_changed p from to xs))
           ≡ (if t then times from x.inputs else 0) + input_uses p from xs
-      by true true q s d = ap (λ t. suc ((if t then times from (first_with from to x.inputs) else 0) + input_uses p from xs)) q ∙ omega (arith, one_less x.inputs s)
-      by true false q s d = ap (λ t. suc ((if t then times from x.inputs else 0) + input_uses p from (input_changed p from to xs))) q ∙ omega (arith, inputs_less xs d)
-      by false u q s d = ap (λ t. suc ((if t then times from x.inputs else 0) + input_uses p from (input_changed p from to xs))) q ∙ omega (arith, inputs_less xs d)
+      by true true q s d h = ap (λ t. suc ((if t then times from (first_with from to x.inputs) else 0) + input_uses p from xs)) q ∙ omega (arith, one_less x.inputs s)
+      by true false q s d h = ap (λ t. suc ((if t then times from x.inputs else 0) + input_uses p from (input_changed p from to xs))) q ∙ omega (arith, h d)
+      by false u q s d h = ap (λ t. suc ((if t then times from x.inputs else 0) + input_uses p from (input_changed p from to xs))) q ∙ omega (arith, h d)
 
   inputs_unused : (xs : List FlatNode) → some_of (uses_at p from) xs ≡ false → input_uses p from xs ≡ 0
   inputs_unused [] e = refl
@@ -192,21 +193,21 @@ module _ (p : Place) (from to : Origin) (other : same_origin from to ≡ false) 
   -- regions stay where an input changes
   regions_still : (n k : ℕ) (xs : List FlatNode) → region_found n k (input_changed p from to xs) ≡ region_found n k xs
   regions_still n k [] = refl
-  regions_still n k (x ∷ xs) = by (uses_at p from x)
+  regions_still n k (x ∷ xs) = split (uses_at p from x) ∙ by (uses_at p from x) (x.id == n) (regions_still n k xs)
     where
-      by : (t : Bool) → region_found n k (if t then record x { inputs = first_with from to x.inputs } ∷ xs else x ∷ input_changed p from to xs) ≡ region_found n k (x ∷ xs)
-      by true = by_test (x.id == n)
-        where
-          by_test : (u : Bool) → option_and_then (λ (y : FlatNode). slice_get y.regions k) (if u then Some (record x { inputs = first_with from to x.inputs }) else found n xs)
-              ≡ option_and_then (λ (y : FlatNode). slice_get y.regions k) (if u then Some x else found n xs)
-          by_test true = refl
-          by_test false = refl
-      by false = by_test (x.id == n)
-        where
-          by_test : (u : Bool) → option_and_then (λ (y : FlatNode). slice_get y.regions k) (if u then Some x else found n (input_changed p from to xs))
-              ≡ option_and_then (λ (y : FlatNode). slice_get y.regions k) (if u then Some x else found n xs)
-          by_test true = refl
-          by_test false = regions_still n k xs
+      split : (t : Bool) → region_found n k (if t then record x { inputs = first_with from to x.inputs } ∷ xs else x ∷ input_changed p from to xs)
+          ≡ option_and_then (λ (y : FlatNode). slice_get y.regions k)
+          (if x.id == n then Some (if t then record x { inputs = first_with from to x.inputs } else x) else found n (if t then xs else input_changed p from to xs))
+      split true = refl
+      split false = refl
+
+      by : (t u : Bool) → region_found n k (input_changed p from to xs) ≡ region_found n k xs →
+          option_and_then (λ (y : FlatNode). slice_get y.regions k) (if u then Some (if t then record x { inputs = first_with from to x.inputs } else x) else found n (if t then xs else input_changed p from to xs))
+          ≡ option_and_then (λ (y : FlatNode). slice_get y.regions k) (if u then Some x else found n xs)
+      by true true h = refl
+      by true false h = refl
+      by false true h = refl
+      by false false h = h
 
   region_still : (a : Flat) → region_at p (record a { nodes = input_changed p from to a.nodes }) ≡ region_at p a
   region_still a = by p.node
@@ -219,30 +220,30 @@ module _ (p : Place) (from to : Origin) (other : same_origin from to ≡ false) 
   inputs_commute : (n k : ℕ) (f : FlatRegion → FlatRegion) (g : Origin → Origin) (xs : List FlatNode) →
       map (inputs_at p g) (node_with n (region_set k f) xs) ≡ node_with n (region_set k f) (map (inputs_at p g) xs)
   inputs_commute n k f g [] = refl
-  inputs_commute n k f g (x ∷ xs) = by (x.id == n) refl
+  inputs_commute n k f g (x ∷ xs) = by (x.id == n) refl (inputs_commute n k f g xs)
     where
       head : (t : Bool) → (if t then record (region_set k f x) { inputs = map g x.inputs } else region_set k f x) ≡ region_set k f (if t then record x { inputs = map g x.inputs } else x)
       head true = refl
       head false = refl
 
-      by : (u : Bool) → (x.id == n) ≡ u →
+      by : (u : Bool) → (x.id == n) ≡ u → map (inputs_at p g) (node_with n (region_set k f) xs) ≡ node_with n (region_set k f) (map (inputs_at p g) xs) →
           map (inputs_at p g) (if u then region_set k f x ∷ xs else x ∷ node_with n (region_set k f) xs) ≡ node_with n (region_set k f) (inputs_at p g x ∷ map (inputs_at p g) xs)
-      by true e =
+      by true e h =
           (λ i. head (same_place x.home p) i ∷ map (inputs_at p g) xs)
           ∙ sym (ap (λ u. if u then region_set k f (inputs_at p g x) ∷ map (inputs_at p g) xs else inputs_at p g x ∷ node_with n (region_set k f) (map (inputs_at p g) xs))
           (ap (λ m. m == n) (input_id p g x) ∙ e))
-      by false e =
-          ap (λ ys. inputs_at p g x ∷ ys) (inputs_commute n k f g xs)
+      by false e h =
+          ap (λ ys. inputs_at p g x ∷ ys) h
           ∙ sym (ap (λ u. if u then region_set k f (inputs_at p g x) ∷ map (inputs_at p g) xs else inputs_at p g x ∷ node_with n (region_set k f) (map (inputs_at p g) xs))
           (ap (λ m. m == n) (input_id p g x) ∙ e))
 
   uses_alone : (n k : ℕ) (f : FlatRegion → FlatRegion) (xs : List FlatNode) → input_uses p from (node_with n (region_set k f) xs) ≡ input_uses p from xs
   uses_alone n k f [] = refl
-  uses_alone n k f (x ∷ xs) = by (x.id == n)
+  uses_alone n k f (x ∷ xs) = by (x.id == n) (uses_alone n k f xs)
     where
-      by : (u : Bool) → input_uses p from (if u then region_set k f x ∷ xs else x ∷ node_with n (region_set k f) xs) ≡ input_uses p from (x ∷ xs)
-      by true = refl
-      by false = ap (λ c. times_at p from x + c) (uses_alone n k f xs)
+      by : (u : Bool) → input_uses p from (node_with n (region_set k f) xs) ≡ input_uses p from xs → input_uses p from (if u then region_set k f x ∷ xs else x ∷ node_with n (region_set k f) xs) ≡ input_uses p from (x ∷ xs)
+      by true h = refl
+      by false h = ap (λ c. times_at p from x + c) h
 
   -- one use moves
   use_then : (a : Flat) → uses_with p move (use_changed p from to a) ≡ uses_with p move a
