@@ -1,25 +1,23 @@
 -- The laws of changes of a list of nodes.
-use Rattle.std.proofs.Common.{◌≡◌, ◌≤◌, ◌<◌, ◌+◌, ◌⊎◌, inl, inr, ℕ, zero, suc, ◌==◌, ◌&&◌, ◌||◌, not, Bool, true, false, Option, None, Some, List, [], ◌∷◌, ◌++◌, map, length, refl, sym, ap, subst, ◌∙◌, arith}
-use Rattle.std.specs.Prelude.{slice_get, if◌then◌else◌}
-use Rattle.std.proofs.lemmas.Bool.{and_parts, or_from, or_parts}
-use Rattle.std.proofs.lemmas.Bool.Decides.{nat_tests}
+use Rattle.std.proofs.Common.{◌≡◌, ◌+◌, ℕ, suc, ◌==◌, not, Bool, true, false, Some, List, [], ◌∷◌, map, length, refl, sym, ap, subst, ◌∙◌, arith}
+use Rattle.std.specs.Prelude.{slice_get}
+use Rattle.std.proofs.lemmas.Bool.{and_parts, or_from}
 use Rattle.std.proofs.lemmas.Option.{same_Some}
 use Rattle.g_graph.specs.declared.op.Kind.{Kind}
 use Rattle.g_graph.specs.declared.op.Kind.TheVariants.{Memory, Io}
-use Rattle.g_graph.specs.declared.op.Op.{Op}
 use Rattle.g_graph.specs.declared.op.Op.TheVariants.{Gamma, Theta}
 use Rattle.g_graph.specs.declared.op.Origin.{Origin}
 use Rattle.g_graph.specs.declared.op.Origin.TheVariants.{Arg, Out}
-use Rattle.g_graph.specs.Plain.{RegionTree, region, NodeTrees, node, node_then, RegionTrees, no_regions, region_then, count_of, PlainLambda}
+use Rattle.g_graph.specs.Plain.{region, NodeTrees, node, node_then, RegionTrees, no_regions, region_then, count_of, PlainLambda}
 use Rattle.g_graph.specs.Signatures.{outputs_of}
-use Rattle.g_graph.specs.Scope.{is_of, same_kind, same_origin}
+use Rattle.g_graph.specs.Scope.{is_of, same_origin}
 use Rattle.g_graph.specs.Replace.{region_redirected, origin_replaced}
 use Rattle.g_graph.specs.Change.{lambda_changed, in_region_of}
 use Rattle.g_graph.specs.WellFormed.{some_of, kinds_of, region_fits, every_region, IsWellFormed}
 use Rattle.g_graph.specs.Splice.{joined_nodes}
-use Rattle.g_graph.specs.Nodes.{is_used, nodes_use}
+use Rattle.g_graph.specs.Nodes.{is_used}
 use Rattle.g_graph.proofs.lemmas.Nests.{regions_of_well_formed}
-use Rattle.g_graph.proofs.lemmas.Unique.{same_number, equal_back}
+use Rattle.g_graph.proofs.lemmas.Unique.{same_number}
 use Rattle.g_mean.specs.Silent.{GivesNoState}
 use Rattle.g_arena_def.specs.Flat.{FlatRegion, FlatNode, Flat, place_in, region_flat, regions_flat, flat_of}
 use Rattle.g_arena_def.specs.Reads.{found, kind_in, times, input_uses, uses_in}
@@ -35,7 +33,7 @@ use Rattle.g_arena_laws.specs.Laws.{AreUnused, IsDead, NodesGo, ExitsGo, Entries
 use Rattle.g_arena_laws.proofs.lemmas.Blocks.{Within}
 use Rattle.g_arena_laws.proofs.lemmas.Kept.{Fitting, fitting, gamma_within, theta_within, exits_go, entries_go, variables_go}
 use Rattle.g_arena_laws.proofs.lemmas.NodeGoes.{node_goes}
-use Rattle.g_arena_laws.proofs.lemmas.Reading.{region_times, times_in, inner_times, nth_region, unused, unread, start_node, node_is_found, inputs_below, uses_below}
+use Rattle.g_arena_laws.proofs.lemmas.Reading.{times_in, inner_times, nth_region, unused, unread, start_node, node_is_found, inputs_below, uses_below}
 use Rattle.g_arena_laws.proofs.lemmas.Kinds.{uses_go}
 use Rattle.g_arena_laws.proofs.lemmas.Standing.{within, change_is, own_kinds, states_are, not_read}
 

@@ -1,26 +1,25 @@
 -- What stands around the region that itself holds a node.
 use Rattle.std.specs.Option.{option_or}
-use Rattle.std.proofs.Common.{◌≡◌, ◌≤◌, ◌<◌, ◌+◌, ◌⊎◌, inl, inr, ℕ, zero, suc, ◌==◌, ◌||◌, ◌&&◌, Bool, true, false, Option, None, Some, option_map, option_and_then, List, [], ◌∷◌, ◌++◌, map, length, refl, sym, ap, subst, ◌∙◌, arith, append_assoc, append-nil}
+use Rattle.std.proofs.Common.{◌≡◌, ◌≤◌, ◌<◌, ◌+◌, ◌⊎◌, inl, inr, ℕ, zero, suc, ◌==◌, ◌||◌, ◌&&◌, Bool, true, false, Option, None, Some, option_map, option_and_then, List, [], ◌∷◌, ◌++◌, map, length, refl, sym, ap, ◌∙◌, arith, append_assoc, append-nil}
 use Rattle.std.specs.Prelude.{slice_get, if◌then◌else◌}
 use Rattle.std.proofs.lemmas.Bool.{ne_eqb, and_parts}
-use Rattle.std.proofs.lemmas.Bool.Decides.{nat_tests}
 use Rattle.g_graph.specs.declared.op.Kind.{Kind}
 use Rattle.g_graph.specs.declared.op.Op.{Op}
 use Rattle.g_graph.specs.declared.op.Op.TheVariants.{Gamma, Theta}
 use Rattle.g_graph.specs.declared.op.Origin.{Origin}
-use Rattle.g_graph.specs.Plain.{RegionTree, region, NodeTree, node, NodeTrees, no_nodes, node_then, RegionTrees, no_regions, region_then, id_of, nodes_in, PlainLambda}
-use Rattle.g_graph.specs.Ids.{region_ids, node_ids, nodes_ids, regions_ids}
+use Rattle.g_graph.specs.Plain.{RegionTree, region, node, NodeTrees, no_nodes, node_then, RegionTrees, no_regions, region_then, nodes_in, PlainLambda}
+use Rattle.g_graph.specs.Ids.{region_ids, nodes_ids, regions_ids}
 use Rattle.g_graph.specs.Signatures.{joined, kind_of, first_args, outputs_of, kind_after}
-use Rattle.g_graph.specs.Change.{region_changed, node_changed, nodes_changed, regions_changed, has_node}
+use Rattle.g_graph.specs.Change.{region_changed, nodes_changed, regions_changed, has_node}
 use Rattle.g_graph.specs.WellFormed.{kinds_of, every_region, every_in_nodes, every_in_regions}
 use Rattle.g_graph.proofs.lemmas.Indexes.{same_number_true}
 use Rattle.g_graph.proofs.lemmas.Nodes.{has_times}
 use Rattle.g_graph.proofs.lemmas.Unique.{times, times_append, times_cons}
 use Rattle.g_arena_def.specs.declared.place.Place.{Place}
-use Rattle.g_arena_def.specs.Flat.{FlatRegion, FlatNode, Flat, body_place, place_in, region_flat, regions_flat, in_region, in_nodes, in_node, in_regions, flat_of, same_node, same_place}
+use Rattle.g_arena_def.specs.Flat.{FlatRegion, FlatNode, Flat, body_place, place_in, region_flat, regions_flat, in_region, in_nodes, in_node, in_regions, flat_of, same_node}
 use Rattle.g_arena_def.specs.Reads.{found, region_at}
 use Rattle.g_arena_def.specs.Edits.{node_with, at_with, region_with}
-use Rattle.g_arena_laws.proofs.lemmas.Outside.{AreOnce, none_first, none_both, at_most_first, times_head, IsOutside, AreOutside, AreApart, IsNone, none_of_both, outside_append, apart_append, outside_apart, place_apart, node_outside, nodes_outside, regions_outside, nodes_apart}
+use Rattle.g_arena_laws.proofs.lemmas.Outside.{AreOnce, none_first, none_both, at_most_first, times_head, AreOutside, AreApart, IsNone, none_of_both, outside_append, apart_append, outside_apart, place_apart, node_outside, nodes_outside, regions_outside, nodes_apart}
 use Rattle.g_arena_laws.proofs.lemmas.Regions.{IsChangeAt, IsAlike, Among, among_first, among_later, map_twice, has_none, changed_none, IsHolder, holder_changed, nodes_unchanged, regions_unchanged}
 
 -- ---- the first node of a number, in a list
@@ -122,8 +121,7 @@ wrapped n flat flat' numbers numbers' changed changed' every every' Same Same' w
   own = w.own;
   apart = λ r.
       let o = out w.parent w.mine in
-      let p = place_in w.parent w.index in
-      (
+      let p = place_in w.parent w.index in (
         apart_append p pre (w.before r) (outside_apart w.parent w.index pre o.0) (w.apart r).0,
         apart_append p w.after post (w.apart r).1 (outside_apart w.parent w.index post o.1),
       );
@@ -169,8 +167,7 @@ module _ (n : ℕ) (q : Place) (id : ℕ) (op : Op) (inputs : List Origin) (rs :
   -- a number in the regions is not the node's, nor that of a later one
   inner : (m : ℕ) → 1 ≤ times m (regions_ids rs) → ((id == m) ≡ false) × (times m (nodes_ids xs) ≡ 0) × (same_node q.node (Some m) ≡ false)
   inner m e =
-      let c = times_cons m id (regions_ids rs) in
-      (
+      let c = times_cons m id (regions_ids rs) in (
         by (id == m) (omega (arith, once m, counts m, c, e)),
         omega (arith, once m, counts m, at_most_first m id (regions_ids rs), e),
         other_node q.node m ((id ∷ regions_ids rs) ++ nodes_ids xs) none (omega (arith, counts m, at_most_first m id (regions_ids rs), e)),

@@ -1,13 +1,13 @@
 -- The changes at one node of a list of nodes, each by what it does to the node, its regions, and the uses around it.
-use Rattle.std.proofs.Common.{◌≡◌, ◌≤◌, ◌<◌, ◌+◌, ℕ, zero, suc, ◌==◌, Bool, true, false, Option, None, Some, List, [], ◌∷◌, ◌++◌, map, length, refl, sym, ap, subst, ◌∙◌, arith, append_assoc}
-use Rattle.std.specs.Prelude.{slice_get, if◌then◌else◌, option_and_then}
+use Rattle.std.proofs.Common.{◌≡◌, ◌≤◌, ◌<◌, ◌+◌, ℕ, zero, suc, false, Some, List, [], ◌∷◌, ◌++◌, map, length, refl, sym, ap, subst, ◌∙◌, arith, append_assoc}
+use Rattle.std.specs.Prelude.{slice_get, option_and_then}
 use Rattle.std.specs.List.{remove}
 use Rattle.std.proofs.lemmas.Option.{same_Some}
 use Rattle.g_graph.specs.declared.op.Kind.{Kind}
 use Rattle.g_graph.specs.declared.op.Op.{Op}
 use Rattle.g_graph.specs.declared.op.Origin.{Origin}
-use Rattle.g_graph.specs.Plain.{RegionTree, region, NodeTree, node, NodeTrees, no_nodes, node_then, RegionTrees, no_regions, region_then, PlainLambda, count_of}
-use Rattle.g_graph.specs.Ids.{region_ids, node_ids, nodes_ids, regions_ids}
+use Rattle.g_graph.specs.Plain.{RegionTree, region, node, NodeTrees, no_nodes, node_then, RegionTrees, no_regions, region_then, PlainLambda, count_of}
+use Rattle.g_graph.specs.Ids.{region_ids, nodes_ids, regions_ids}
 use Rattle.g_graph.specs.Signatures.{outputs_of}
 use Rattle.g_graph.specs.WellFormed.{kinds_of}
 use Rattle.g_graph.specs.Splice.{joined_nodes}
@@ -19,7 +19,7 @@ use Rattle.g_arena_def.specs.declared.place.Place.{Place}
 use Rattle.g_arena_def.specs.Flat.{FlatRegion, FlatNode, Flat, place_in, region_flat, regions_flat, in_region, in_nodes, in_node, in_regions, flat_of, same_node, same_place}
 use Rattle.g_arena_def.specs.Reads.{found, region_at}
 use Rattle.g_arena_def.specs.Edits.{node_with, at_with, region_with, inputs_at, uses_with, output_less, outputs_follow, output_removed, argument_less, arguments_follow, argument_removed, result_removed, input_removed}
-use Rattle.g_arena_laws.proofs.lemmas.Outside.{AreOnce, times_head, none_both, IsOutside, AreOutside, AreApart, IsNone, none_of_both, none_of_rest, outside_apart, place_apart, nodes_outside, regions_apart}
+use Rattle.g_arena_laws.proofs.lemmas.Outside.{times_head, AreOutside, AreApart, IsNone, none_of_both, none_of_rest, outside_apart, place_apart, nodes_outside, regions_apart}
 use Rattle.g_arena_laws.proofs.lemmas.Regions.{IsAlike}
 use Rattle.g_arena_laws.proofs.lemmas.Around.{Around, with_nodes, node_with_past, node_with_here, found_past, found_here, other_node, region_set}
 use Rattle.g_arena_laws.proofs.lemmas.Inputs.{map_both, map_map, map_id, inputs_apart, inputs_outside, inputs_twice, inputs_id, inputs_nodes, input_here, input_apart, same_place_self, regions_with, nodes_with, inputs_region}

@@ -1,20 +1,17 @@
 -- Variables of a node go one by one: what becomes of the node, its regions and the uses around it.
-use Rattle.std.proofs.Common.{◌≡◌, ◌≤◌, ◌<◌, ◌+◌, ℕ, zero, suc, Bool, true, false, List, [], ◌∷◌, ◌++◌, map, length, refl, sym, ap, subst, ◌∙◌, arith}
+use Rattle.std.proofs.Common.{◌≡◌, ◌≤◌, ℕ, zero, suc, Bool, true, false, List, [], ◌∷◌, map, length, refl, sym, ap, ◌∙◌, arith}
 use Rattle.std.specs.Prelude.{if◌then◌else◌}
 use Rattle.std.specs.List.{remove}
 use Rattle.g_graph.specs.declared.op.Kind.{Kind}
 use Rattle.g_graph.specs.declared.op.Origin.{Origin}
-use Rattle.g_graph.specs.Plain.{RegionTree, region, NodeTree, node, NodeTrees, no_nodes, node_then, RegionTrees, no_regions, region_then, PlainLambda, count_of}
+use Rattle.g_graph.specs.Plain.{RegionTree, RegionTrees, no_regions, region_then, PlainLambda, count_of}
 use Rattle.g_graph.specs.Ids.{regions_ids}
-use Rattle.g_graph.specs.Replace.{nodes_redirected}
-use Rattle.g_arena_def.specs.Flat.{Flat, place_in}
-use Rattle.g_arena_def.specs.Edits.{output_less, argument_less, output_removed, argument_removed, result_removed, input_removed}
-use Rattle.r_edit.specs.Places.{kept}
-use Rattle.r_edit.specs.Exits.{regions_giving}
+use Rattle.g_arena_def.specs.Flat.{place_in}
+use Rattle.g_arena_def.specs.Edits.{output_less, argument_removed, result_removed, input_removed}
 use Rattle.g_arena_laws.specs.Removals.{from_last, each_of, exit_removed, entry_removed, variable_removed}
 use Rattle.g_arena_laws.proofs.lemmas.Inputs.{map_map, map_id, regions_with}
 use Rattle.g_arena_laws.proofs.lemmas.Blocks.{Within, result_gone, argument_gone, result_ids, argument_ids, HaveNumbers, state, state_output, state_input, state_result, state_argument}
-use Rattle.g_arena_laws.proofs.lemmas.FromLast.{from_last-kept, from_last-second, origin_out, origin_arg}
+use Rattle.g_arena_laws.proofs.lemmas.FromLast.{origin_out}
 
 -- ---- all regions of a node
 

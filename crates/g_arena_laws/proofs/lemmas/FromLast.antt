@@ -1,6 +1,6 @@
 -- What stays of a list where what goes goes from the last to the first.
-use Rattle.std.proofs.Common.{◌≡◌, ◌≤◌, ◌<◌, ◌+◌, ◌-◌, ◌⊎◌, inl, inr, ℕ, zero, suc, ◌==◌, ◌&&◌, ◌||◌, not, nat_lt, Bool, true, false, Option, None, Some, List, [], ◌∷◌, ◌++◌, map, length, replicate, take, drop, refl, sym, ap, subst, ◌∙◌, arith}
-use Rattle.std.specs.Prelude.{slice_get, if◌then◌else◌}
+use Rattle.std.proofs.Common.{◌≡◌, ◌<◌, ◌-◌, ◌⊎◌, inl, inr, ℕ, zero, suc, ◌==◌, ◌&&◌, not, nat_lt, Bool, true, false, List, [], ◌∷◌, map, length, refl, sym, ap, ◌∙◌, arith}
+use Rattle.std.specs.Prelude.{if◌then◌else◌}
 use Rattle.std.specs.List.{remove}
 use Rattle.std.proofs.lemmas.Bool.{cases_Bool, or_parts}
 use Rattle.std.proofs.lemmas.Bool.Decides.{nat_tests}
@@ -14,7 +14,7 @@ use Rattle.r_edit.specs.Places.{stays_at, kept, place_after}
 use Rattle.r_edit.specs.Uses.{nodes_read}
 use Rattle.r_edit.specs.Exits.{output_after, is_gone_output}
 use Rattle.r_edit.specs.Entries.{argument_after, is_gone_argument}
-use Rattle.g_arena_laws.specs.Removals.{from_last, each_of}
+use Rattle.g_arena_laws.specs.Removals.{from_last}
 use Rattle.g_graph.proofs.lemmas.Unique.{equal_back}
 
 -- ---- lists

@@ -1,21 +1,19 @@
 -- Uses in a region, changed: the inputs of its own nodes alone.
-use Rattle.std.proofs.Common.{◌≡◌, ◌≤◌, ◌<◌, ◌+◌, ◌⊎◌, inl, inr, ℕ, zero, suc, ◌==◌, Bool, true, false, Option, None, Some, List, [], ◌∷◌, ◌++◌, map, length, refl, sym, ap, ◌∙◌, arith}
+use Rattle.std.proofs.Common.{◌≡◌, ◌+◌, ◌⊎◌, inl, inr, ℕ, zero, suc, ◌==◌, Bool, true, false, Option, None, Some, List, [], ◌∷◌, ◌++◌, map, refl, sym, ap, ◌∙◌, arith}
 use Rattle.std.specs.Prelude.{◌&&◌, if◌then◌else◌}
 use Rattle.std.proofs.lemmas.Bool.{cases_Bool}
-use Rattle.g_graph.specs.declared.op.Kind.{Kind}
-use Rattle.g_graph.specs.declared.op.Op.{Op}
 use Rattle.g_graph.specs.declared.op.Origin.{Origin}
-use Rattle.g_graph.specs.Plain.{RegionTree, region, NodeTree, node, NodeTrees, no_nodes, node_then, RegionTrees, no_regions, region_then, count_of}
-use Rattle.g_graph.specs.Ids.{region_ids, node_ids, nodes_ids, regions_ids}
+use Rattle.g_graph.specs.Plain.{RegionTree, region, node, NodeTrees, no_nodes, node_then, RegionTrees, no_regions, region_then}
+use Rattle.g_graph.specs.Ids.{nodes_ids, regions_ids}
 use Rattle.g_graph.specs.Signatures.{outputs_of}
 use Rattle.g_graph.specs.WellFormed.{kinds_of}
-use Rattle.g_graph.specs.Replace.{node_redirected, nodes_redirected}
+use Rattle.g_graph.specs.Replace.{nodes_redirected}
 use Rattle.g_graph.proofs.lemmas.Indexes.{same_number_true}
-use Rattle.g_graph.proofs.lemmas.Unique.{times, times_append}
+use Rattle.g_graph.proofs.lemmas.Unique.{times}
 use Rattle.g_arena_def.specs.declared.place.Place.{Place}
-use Rattle.g_arena_def.specs.Flat.{FlatRegion, FlatNode, place_in, region_flat, regions_flat, in_region, in_nodes, in_node, in_regions, same_node, same_place}
-use Rattle.g_arena_def.specs.Edits.{at_with, inputs_at}
-use Rattle.g_arena_laws.proofs.lemmas.Outside.{none_both, IsOutside, AreOutside, AreApart, IsNone, none_of_both, none_of_rest, regions_apart, later_apart, earlier_apart}
+use Rattle.g_arena_def.specs.Flat.{FlatNode, place_in, regions_flat, in_nodes, in_regions, same_node, same_place}
+use Rattle.g_arena_def.specs.Edits.{inputs_at}
+use Rattle.g_arena_laws.proofs.lemmas.Outside.{none_both, AreOutside, AreApart, IsNone, none_of_both, none_of_rest, regions_apart, later_apart, earlier_apart}
 
 pub map_both : {X Y : Type 0} (f : X → Y) (xs ys : List X) → map f (xs ++ ys) ≡ map f xs ++ map f ys
 map_both f [] ys = refl

@@ -1,20 +1,18 @@
 -- Variables of a node that go, and the lambda without them.
-use Rattle.std.proofs.Common.{◌≡◌, ◌≤◌, ◌<◌, ◌+◌, ◌-◌, ℕ, zero, suc, ◌==◌, ◌&&◌, ◌||◌, not, nat_lt, Bool, true, false, Option, None, Some, option_map, unwrap_or, List, [], ◌∷◌, ◌++◌, map, length, refl, sym, ap, subst, ◌∙◌, arith, le_of_eq}
+use Rattle.std.proofs.Common.{◌≡◌, ◌≤◌, ◌-◌, ℕ, suc, ◌==◌, ◌&&◌, not, nat_lt, Bool, true, false, Option, Some, List, [], ◌∷◌, ◌++◌, map, length, refl, sym, ap, subst, ◌∙◌, arith, le_of_eq}
 use Rattle.std.specs.Prelude.{if◌then◌else◌}
 use Rattle.std.specs.List.{remove}
-use Rattle.std.proofs.lemmas.Bool.{and_parts, or_parts, or_from}
+use Rattle.std.proofs.lemmas.Bool.{and_parts, or_parts}
 use Rattle.std.proofs.lemmas.Bool.Decides.{nat_tests}
 use Rattle.g_graph.specs.declared.op.Kind.{Kind}
-use Rattle.g_graph.specs.declared.op.Op.{Op}
 use Rattle.g_graph.specs.declared.op.Op.TheVariants.{Gamma, Theta}
 use Rattle.g_graph.specs.declared.op.Origin.{Origin}
 use Rattle.g_graph.specs.declared.op.Origin.TheVariants.{Arg, Out}
-use Rattle.g_graph.specs.Plain.{RegionTree, region, NodeTree, node, NodeTrees, no_nodes, node_then, RegionTrees, no_regions, region_then, count_of, id_of, args_of, nodes_in, PlainLambda}
-use Rattle.g_graph.specs.Ids.{region_ids, nodes_ids}
+use Rattle.g_graph.specs.Plain.{RegionTree, region, NodeTree, node, NodeTrees, no_nodes, node_then, RegionTrees, no_regions, region_then, count_of, args_of, PlainLambda}
+use Rattle.g_graph.specs.Ids.{region_ids}
 use Rattle.g_graph.specs.Signatures.{outputs_of, output_kinds, result_kinds, inputs_of}
-use Rattle.g_graph.specs.Change.{has_node, region_changed, lambda_changed, in_region_of}
-use Rattle.g_graph.specs.Scope.{known}
-use Rattle.g_graph.specs.WellFormed.{some_of, are, kinds_of, region_fits, every_region, every_in_node, every_in_regions, regions_fit, body_fits, numbers_fit, leaves_fit, all_of, IsWellFormed}
+use Rattle.g_graph.specs.Change.{has_node}
+use Rattle.g_graph.specs.WellFormed.{some_of, kinds_of, region_fits, every_region, every_in_regions, body_fits, numbers_fit, leaves_fit, all_of, IsWellFormed}
 use Rattle.g_graph.specs.Replace.{nodes_redirected}
 use Rattle.g_graph.specs.Splice.{joined_nodes}
 use Rattle.g_graph.proofs.lemmas.KindLists.{kinds_of_some}
@@ -22,9 +20,9 @@ use Rattle.g_graph.proofs.lemmas.Indexes.{same_number_true}
 use Rattle.g_graph.proofs.lemmas.Nests.{numbers_numbered, regions_of_well_formed}
 use Rattle.g_graph.proofs.lemmas.Nodes.{NodeFits, node_fits_here, KeptWithin}
 use Rattle.g_graph.proofs.lemmas.Numbers.{Numbered, numbered_fewer}
-use Rattle.g_graph.proofs.lemmas.Redirects.{all_unmoved, nodes_unmoved}
+use Rattle.g_graph.proofs.lemmas.Redirects.{nodes_unmoved}
 use Rattle.g_graph.proofs.lemmas.Unique.{times, equal_back}
-use Rattle.g_arena_def.specs.Flat.{FlatRegion, in_nodes, in_regions, flat_of}
+use Rattle.g_arena_def.specs.Flat.{in_nodes, in_regions, flat_of}
 use Rattle.g_arena_def.specs.Edits.{inputs_at, output_less}
 use Rattle.r_edit.specs.Uses.{nodes_read, is_read}
 use Rattle.r_edit.specs.Places.{kept, drops_values, place_after}
@@ -39,14 +37,14 @@ use Rattle.r_edit.proofs.lemmas.Entries.{taking_joined}
 use Rattle.r_edit.proofs.lemmas.EntriesFit.{region_takes, entries_kept_fit}
 use Rattle.r_edit.proofs.lemmas.Variables.{looping_joined}
 use Rattle.r_edit.proofs.lemmas.VariablesFit.{variables_kept_fit}
-use Rattle.g_arena_laws.specs.Removals.{from_last, exits_removed, entries_removed, variables_removed, exit_removed, entry_removed, variable_removed}
+use Rattle.g_arena_laws.specs.Removals.{from_last, exits_removed, entries_removed, variables_removed}
 use Rattle.g_arena_laws.proofs.lemmas.Regions.{IsAlike, has_none}
 use Rattle.g_arena_laws.proofs.lemmas.Around.{Around}
 use Rattle.g_arena_laws.proofs.lemmas.Inputs.{map_id, inputs_nodes}
 use Rattle.g_arena_laws.proofs.lemmas.Blocks.{Within, state, state_start, state_end, region_now, flat_with, node_now, none_parts, not_after, place}
 use Rattle.g_arena_laws.proofs.lemmas.FromLast.{behind, from_last-kept, from_last-second, origin_out, outputs_are, is_beyond, same_origins, same_nodes}
-use Rattle.g_arena_laws.proofs.lemmas.Composed.{exits_state, entries_state, variables_state, inputs_left, results_gone, arguments_gone, variable_gone}
-use Rattle.g_arena_laws.proofs.lemmas.There.{AreShort, short_none, short_joined, RegionFits, region_parts, none_beyond, none_before, none_own}
+use Rattle.g_arena_laws.proofs.lemmas.Composed.{exits_state, entries_state, variables_state, inputs_left}
+use Rattle.g_arena_laws.proofs.lemmas.There.{short_none, short_joined, RegionFits, region_parts, none_beyond, none_before, none_own}
 use Rattle.g_arena_laws.proofs.lemmas.Regional.{results_are, arguments_taken, variables_looped}
 
 -- ---- a node of a well-formed lambda
@@ -210,7 +208,6 @@ module _ (n : ℕ) (l : PlainLambda) (z : Around n l) (args : List Kind) (before
     (is : z.here ≡ region args (joined_nodes before (node_then (node n Gamma inputs rs) after)) results) where
   abbrev pub gamma_within : Within n l
   gamma_within = record { around = z; args = args; before = before; op = Gamma; inputs = inputs; regions = rs; after = after; results = results; is = is }
-
 
 module _ (n : ℕ) (l : PlainLambda) (z : Around n l) (args : List Kind) (before : NodeTrees) (inputs : List Origin) (rs : RegionTrees) (after : NodeTrees) (results : List Origin)
     (is : z.here ≡ region args (joined_nodes before (node_then (node n Gamma inputs rs) after)) results) (well : Fitting n l (gamma_within n l z args before inputs rs after results is))

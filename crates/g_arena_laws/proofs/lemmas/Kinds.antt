@@ -1,14 +1,12 @@
 -- The kind of an origin, in the list of nodes and in the region.
-use Rattle.std.proofs.Common.{◌≡◌, ◌≤◌, ◌<◌, ◌+◌, ◌⊎◌, inl, inr, ℕ, zero, suc, ◌==◌, ◌&&◌, ◌||◌, Bool, true, false, Option, None, Some, option_and_then, List, [], ◌∷◌, ◌++◌, map, length, refl, sym, ap, subst, ◌∙◌, arith, append_assoc}
+use Rattle.std.proofs.Common.{◌≡◌, ◌≤◌, ◌⊎◌, inl, inr, ℕ, zero, suc, ◌==◌, ◌&&◌, ◌||◌, Bool, true, false, Option, None, Some, option_and_then, List, [], ◌∷◌, ◌++◌, map, length, refl, sym, ap, subst, ◌∙◌, arith, append_assoc}
 use Rattle.std.specs.Prelude.{slice_get, if◌then◌else◌}
 use Rattle.std.proofs.lemmas.Bool.{cases_Bool, and_parts, or_parts}
-use Rattle.std.proofs.lemmas.Option.{same_Some}
 use Rattle.g_graph.specs.declared.op.Kind.{Kind}
-use Rattle.g_graph.specs.declared.op.Op.{Op}
 use Rattle.g_graph.specs.declared.op.Origin.{Origin}
 use Rattle.g_graph.specs.declared.op.Origin.TheVariants.{Arg, Out}
-use Rattle.g_graph.specs.Plain.{RegionTree, region, NodeTree, node, NodeTrees, no_nodes, node_then, RegionTrees, id_of, nodes_of, PlainLambda}
-use Rattle.g_graph.specs.Ids.{region_ids, node_ids, nodes_ids, regions_ids}
+use Rattle.g_graph.specs.Plain.{RegionTree, region, NodeTree, node, NodeTrees, no_nodes, node_then, nodes_of, PlainLambda}
+use Rattle.g_graph.specs.Ids.{region_ids, nodes_ids, regions_ids}
 use Rattle.g_graph.specs.Signatures.{joined, outputs_of, output_kinds, kind_after}
 use Rattle.g_graph.specs.Scope.{same_origin, known, each_node}
 use Rattle.g_graph.specs.Replace.{nodes_redirected, region_redirected, origin_replaced}
@@ -18,14 +16,14 @@ use Rattle.g_graph.proofs.lemmas.Indexes.{kind_absent}
 use Rattle.g_graph.proofs.lemmas.Moved.{same_origin_true}
 use Rattle.g_graph.proofs.lemmas.Nodes.{has_times}
 use Rattle.g_graph.proofs.lemmas.Redirects.{kind_after-redirected}
-use Rattle.g_graph.proofs.lemmas.Unique.{times, times_append, times_cons, same_number}
+use Rattle.g_graph.proofs.lemmas.Unique.{times, times_append, same_number}
 use Rattle.g_arena_def.specs.declared.place.Place.{Place}
-use Rattle.g_arena_def.specs.Flat.{FlatRegion, FlatNode, Flat, region_flat, regions_flat, in_region, in_nodes, in_node, in_regions, flat_of, same_node, same_place}
+use Rattle.g_arena_def.specs.Flat.{FlatRegion, FlatNode, region_flat, regions_flat, in_region, in_nodes, in_regions, flat_of, same_node}
 use Rattle.g_arena_def.specs.Reads.{found, region_at, output_kind, kind_in}
-use Rattle.g_arena_laws.proofs.lemmas.Outside.{AreOnce, none_both, none_first, times_head, at_most_first, AreOutside, AreApart, IsNone, none_of_both, none_of_rest, node_outside, nodes_outside, regions_outside, regions_apart}
+use Rattle.g_arena_laws.proofs.lemmas.Outside.{AreOnce, times_head, at_most_first, AreOutside, AreApart, IsNone, none_of_both, none_of_rest, regions_outside, regions_apart}
 use Rattle.g_arena_laws.specs.Removals.{uses_moved}
 use Rattle.g_arena_laws.proofs.lemmas.Regions.{IsAlike, has_none}
-use Rattle.g_arena_laws.proofs.lemmas.Around.{Around, with_nodes, found_past, found_here, other_node}
+use Rattle.g_arena_laws.proofs.lemmas.Around.{Around, with_nodes, found_past}
 use Rattle.g_arena_laws.proofs.lemmas.Inputs.{same_place_self}
 use Rattle.g_arena_laws.proofs.lemmas.UsesMove.{uses_are_moved, redirected_is}
 use Rattle.g_arena_laws.proofs.lemmas.There.{region_parts}

@@ -1,28 +1,25 @@
 -- A node that goes with its regions.
-use Rattle.std.proofs.Common.{◌≡◌, ◌≤◌, ◌+◌, ℕ, zero, suc, ◌==◌, ◌||◌, Bool, true, false, Option, None, Some, List, [], ◌∷◌, ◌++◌, map, length, refl, sym, ap, subst, ◌∙◌, arith, append_assoc}
+use Rattle.std.proofs.Common.{◌≡◌, ◌≤◌, ℕ, suc, ◌==◌, ◌||◌, true, false, Option, None, Some, List, [], ◌∷◌, ◌++◌, length, refl, sym, ap, subst, ◌∙◌, arith, append_assoc}
 use Rattle.std.specs.Prelude.{if◌then◌else◌}
-use Rattle.std.proofs.lemmas.Bool.{or_parts, or_from, or_right}
-use Rattle.g_graph.specs.declared.op.Kind.{Kind}
-use Rattle.g_graph.specs.declared.op.Op.{Op}
-use Rattle.g_graph.specs.declared.op.Origin.{Origin}
-use Rattle.g_graph.specs.Plain.{RegionTree, region, NodeTree, node, NodeTrees, no_nodes, node_then, RegionTrees, no_regions, region_then, PlainLambda}
+use Rattle.std.proofs.lemmas.Bool.{or_from, or_right}
+use Rattle.g_graph.specs.Plain.{region, node, NodeTrees, no_nodes, node_then, RegionTrees, no_regions, region_then, PlainLambda}
 use Rattle.g_graph.specs.Ids.{region_ids, nodes_ids, regions_ids}
 use Rattle.g_graph.specs.Signatures.{outputs_of}
 use Rattle.g_graph.specs.WellFormed.{kinds_of}
 use Rattle.g_graph.specs.Splice.{joined_nodes}
 use Rattle.g_graph.proofs.lemmas.Indexes.{same_number_true}
-use Rattle.g_graph.proofs.lemmas.Unique.{times, times_append, times_cons}
+use Rattle.g_graph.proofs.lemmas.Unique.{times, times_append}
 use Rattle.g_mean.specs.Silent.{GivesNoState}
 use Rattle.g_arena_def.specs.declared.place.Place.{Place}
-use Rattle.g_arena_def.specs.Flat.{FlatRegion, FlatNode, place_in, region_flat, regions_flat, in_region, in_nodes, in_regions, flat_of, same_node, is_in}
+use Rattle.g_arena_def.specs.Flat.{FlatRegion, FlatNode, place_in, regions_flat, in_nodes, in_regions, flat_of, same_node, is_in}
 use Rattle.g_arena_def.specs.Edits.{regions_gone, nodes_without, node_removed}
 use Rattle.r_edit.specs.Uses.{is_read, is_output_of}
 use Rattle.r_edit.specs.Removal.{region_without}
 use Rattle.r_edit.proofs.lemmas.Removal.{without_joined, without_kept}
-use Rattle.g_arena_laws.proofs.lemmas.Outside.{times_head, at_most_first, AreOutside, IsNone, nodes_outside}
+use Rattle.g_arena_laws.proofs.lemmas.Outside.{times_head, at_most_first, AreOutside, nodes_outside}
 use Rattle.g_arena_laws.proofs.lemmas.Regions.{IsAlike}
-use Rattle.g_arena_laws.proofs.lemmas.Around.{Around, with_nodes, other_node}
-use Rattle.g_arena_laws.proofs.lemmas.Blocks.{Within, in_nodes-joined, place, flat_with, node_now, here_once, not_before, place_other, counts, start_laid}
+use Rattle.g_arena_laws.proofs.lemmas.Around.{with_nodes, other_node}
+use Rattle.g_arena_laws.proofs.lemmas.Blocks.{Within, in_nodes-joined, place, node_now, here_once, not_before, place_other, counts, start_laid}
 use Rattle.g_arena_laws.proofs.lemmas.Kept.{alike_by, Fitting, here, none_first}
 
 -- ---- nodes that went

@@ -1,29 +1,26 @@
 -- What is asked of a list of nodes, and of the lambda.
-use Rattle.std.proofs.Common.{◌≡◌, ◌≤◌, ◌<◌, ◌+◌, ◌⊎◌, inl, inr, ℕ, zero, suc, ◌==◌, ◌&&◌, ◌||◌, not, nat_lt, Bool, true, false, Option, None, Some, option_and_then, List, [], ◌∷◌, ◌++◌, map, length, refl, sym, ap, subst, ◌∙◌, arith}
+use Rattle.std.proofs.Common.{◌≡◌, ◌≤◌, ◌+◌, ◌⊎◌, inl, inr, ℕ, zero, suc, ◌==◌, ◌||◌, Bool, true, false, Option, None, Some, option_and_then, List, [], ◌∷◌, ◌++◌, refl, sym, ap, subst, ◌∙◌, arith}
 use Rattle.std.specs.Prelude.{slice_get, if◌then◌else◌}
-use Rattle.std.proofs.lemmas.Bool.{cases_Bool, or_parts, or_from}
-use Rattle.std.proofs.lemmas.Bool.Decides.{nat_tests}
-use Rattle.g_graph.specs.declared.op.Kind.{Kind}
-use Rattle.g_graph.specs.declared.op.Op.{Op}
+use Rattle.std.proofs.lemmas.Bool.{or_parts, or_from}
 use Rattle.g_graph.specs.declared.op.Origin.{Origin}
-use Rattle.g_graph.specs.Plain.{RegionTree, region, NodeTree, node, NodeTrees, no_nodes, node_then, RegionTrees, no_regions, region_then, PlainLambda}
-use Rattle.g_graph.specs.Ids.{region_ids, node_ids, nodes_ids, regions_ids}
+use Rattle.g_graph.specs.Plain.{RegionTree, region, node, NodeTrees, no_nodes, node_then, RegionTrees, no_regions, region_then, PlainLambda}
+use Rattle.g_graph.specs.Ids.{region_ids, nodes_ids, regions_ids}
 use Rattle.g_graph.specs.Signatures.{outputs_of}
 use Rattle.g_graph.specs.Scope.{same_origin}
 use Rattle.g_graph.specs.WellFormed.{some_of, kinds_of}
 use Rattle.g_graph.specs.Nodes.{nodes_use, is_used}
-use Rattle.g_graph.proofs.lemmas.Indexes.{same_number_true, same_origin_self}
+use Rattle.g_graph.proofs.lemmas.Indexes.{same_origin_self}
 use Rattle.g_graph.proofs.lemmas.Moved.{same_origin_true}
-use Rattle.g_graph.proofs.lemmas.Unique.{times_append, times_cons, same_number}
+use Rattle.g_graph.proofs.lemmas.Unique.{times_append, times_cons}
 use Rattle.g_graph.proofs.lemmas.Unique.{times as number_times}
 use Rattle.g_arena_def.specs.declared.place.Place.{Place}
-use Rattle.g_arena_def.specs.Flat.{FlatRegion, FlatNode, Flat, place_in, region_flat, regions_flat, in_region, in_nodes, in_node, in_regions, flat_of, same_node, same_place}
-use Rattle.g_arena_def.specs.Reads.{found, region_of, region_at, times, times_at, input_uses, result_uses, uses_in}
+use Rattle.g_arena_def.specs.Flat.{FlatRegion, FlatNode, Flat, place_in, region_flat, regions_flat, in_region, in_nodes, in_regions, flat_of, same_place}
+use Rattle.g_arena_def.specs.Reads.{found, region_at, times, input_uses, result_uses, uses_in}
 use Rattle.r_edit.specs.Uses.{nodes_read, is_read}
-use Rattle.g_arena_laws.proofs.lemmas.Outside.{none_both, AreOutside, AreApart, IsNone, none_of_both, none_of_rest, outside_apart, place_apart, nodes_outside, regions_apart, later_apart, earlier_apart}
+use Rattle.g_arena_laws.proofs.lemmas.Outside.{none_both, AreApart, IsNone, none_of_both, none_of_rest, outside_apart, place_apart, nodes_outside, regions_apart, later_apart, earlier_apart}
 use Rattle.g_arena_laws.proofs.lemmas.Around.{Around, with_nodes, found_past, found_here}
 use Rattle.g_arena_laws.proofs.lemmas.Inputs.{same_place_self}
-use Rattle.g_arena_laws.proofs.lemmas.Blocks.{Within, place, flat_with, node_now, here_once, not_before, not_after, not_nested, place_other, none_parts, start_laid}
+use Rattle.g_arena_laws.proofs.lemmas.Blocks.{Within, place, node_now, here_once, not_before, not_after, not_nested, place_other, start_laid}
 
 -- ---- uses in a region
 

@@ -1,27 +1,26 @@
 -- The regions of a node without what went of them.
-use Rattle.std.proofs.Common.{◌≡◌, ◌≤◌, ◌<◌, ◌+◌, ℕ, zero, suc, ◌||◌, Bool, true, false, List, [], ◌∷◌, ◌++◌, map, length, refl, sym, ap, subst, ◌∙◌, arith}
-use Rattle.std.specs.Prelude.{if◌then◌else◌}
+use Rattle.std.proofs.Common.{◌≡◌, ℕ, zero, suc, Bool, true, false, List, [], ◌∷◌, map, length, refl, sym, ap, ◌∙◌}
 use Rattle.std.specs.List.{remove}
-use Rattle.std.proofs.lemmas.Bool.{and_parts, or_parts, or_from}
+use Rattle.std.proofs.lemmas.Bool.{and_parts, or_parts}
 use Rattle.g_graph.specs.declared.op.Kind.{Kind}
 use Rattle.g_graph.specs.declared.op.Origin.{Origin}
-use Rattle.g_graph.specs.Plain.{RegionTree, region, NodeTree, node, NodeTrees, no_nodes, node_then, RegionTrees, no_regions, region_then, count_of}
+use Rattle.g_graph.specs.Plain.{RegionTree, region, node, NodeTrees, no_nodes, node_then, RegionTrees, no_regions, region_then, count_of}
 use Rattle.g_graph.specs.WellFormed.{some_of, region_fits, every_region, every_in_regions}
 use Rattle.g_graph.specs.Replace.{nodes_redirected}
 use Rattle.g_graph.proofs.lemmas.Redirects.{nodes_unmoved}
-use Rattle.g_arena_def.specs.Edits.{output_less, argument_less}
+use Rattle.g_arena_def.specs.Edits.{argument_less}
 use Rattle.r_edit.specs.Uses.{nodes_read, is_read}
 use Rattle.r_edit.specs.Places.{kept}
-use Rattle.r_edit.specs.Exits.{regions_giving, is_gone_output}
+use Rattle.r_edit.specs.Exits.{regions_giving}
 use Rattle.r_edit.specs.Entries.{regions_taking, some_reads, is_gone_argument, argument_after}
 use Rattle.r_edit.specs.Variables.{region_looping, loop_reads}
 use Rattle.r_edit.proofs.lemmas.Kept.{some_fewer}
 use Rattle.g_arena_laws.specs.Removals.{from_last, each_of}
 use Rattle.g_arena_laws.proofs.lemmas.Inputs.{map_map, map_id, regions_with}
 use Rattle.g_arena_laws.proofs.lemmas.Blocks.{result_gone, argument_gone}
-use Rattle.g_arena_laws.proofs.lemmas.FromLast.{remove_none, behind, from_last-kept, from_last-second, origin_arg, arguments_are, is_argument_beyond, is_beyond, same_origins, same_nodes}
-use Rattle.g_arena_laws.proofs.lemmas.Composed.{regions_each, each_is, results_gone, arguments_gone, variable_gone, inputs_left}
-use Rattle.g_arena_laws.proofs.lemmas.There.{RegionFits, region_parts, none_beyond_arguments}
+use Rattle.g_arena_laws.proofs.lemmas.FromLast.{remove_none, from_last-kept, from_last-second, origin_arg, arguments_are, is_argument_beyond, same_origins, same_nodes}
+use Rattle.g_arena_laws.proofs.lemmas.Composed.{regions_each, each_is, results_gone, arguments_gone, variable_gone}
+use Rattle.g_arena_laws.proofs.lemmas.There.{region_parts, none_beyond_arguments}
 
 -- ---- lists
 

@@ -1,24 +1,21 @@
 -- The region that itself holds a node, among the regions of its parent.
 use Rattle.std.specs.Option.{option_or}
-use Rattle.std.proofs.Common.{◌≡◌, ◌≤◌, ◌<◌, ◌+◌, ◌⊎◌, inl, inr, ℕ, zero, suc, ◌==◌, ◌||◌, Bool, true, false, cond, Option, None, Some, option_map, List, [], ◌∷◌, ◌++◌, map, length, refl, sym, ap, subst, ◌∙◌, arith, append_assoc}
-use Rattle.std.specs.Prelude.{slice_get, if◌then◌else◌}
-use Rattle.std.proofs.lemmas.Bool.Decides.{nat_tests}
+use Rattle.std.proofs.Common.{◌≡◌, ◌≤◌, ◌<◌, ◌+◌, ◌⊎◌, inl, inr, ℕ, suc, ◌==◌, ◌||◌, Bool, true, false, Option, None, Some, option_map, List, [], ◌∷◌, ◌++◌, length, refl, sym, ap, ◌∙◌, arith, append_assoc}
+use Rattle.std.specs.Prelude.{if◌then◌else◌}
 use Rattle.std.proofs.lemmas.Bool.{cases_Bool, and_parts}
 use Rattle.g_graph.specs.declared.op.Kind.{Kind}
-use Rattle.g_graph.specs.declared.op.Op.{Op}
-use Rattle.g_graph.specs.declared.op.Op.TheVariants.{Gamma, Theta}
+use Rattle.g_graph.specs.declared.op.Op.TheVariants.{Gamma}
 use Rattle.g_graph.specs.declared.op.Origin.{Origin}
-use Rattle.g_graph.specs.Plain.{RegionTree, region, NodeTree, node, NodeTrees, no_nodes, node_then, RegionTrees, no_regions, region_then, id_of, args_of, nodes_in}
-use Rattle.g_graph.specs.Ids.{region_ids, node_ids, nodes_ids, regions_ids}
-use Rattle.g_graph.specs.Signatures.{joined, first_args, outputs_of, output_kinds, result_kinds, kind_after}
-use Rattle.g_graph.specs.Change.{region_changed, node_changed, nodes_changed, regions_changed, has_node}
+use Rattle.g_graph.specs.Plain.{RegionTree, region, node, NodeTrees, no_nodes, node_then, RegionTrees, no_regions, region_then, args_of, nodes_in}
+use Rattle.g_graph.specs.Ids.{region_ids, nodes_ids, regions_ids}
+use Rattle.g_graph.specs.Signatures.{first_args, outputs_of, result_kinds}
+use Rattle.g_graph.specs.Change.{region_changed, nodes_changed, regions_changed, has_node}
 use Rattle.g_graph.specs.WellFormed.{every_region, every_in_regions}
 use Rattle.g_graph.proofs.lemmas.Nodes.{has_times}
 use Rattle.g_graph.proofs.lemmas.Unique.{times, times_append, times_cons}
-use Rattle.g_arena_def.specs.declared.place.Place.{Place}
-use Rattle.g_arena_def.specs.Flat.{FlatRegion, FlatNode, place_in, region_flat, regions_flat, in_region, in_nodes, in_node, in_regions}
+use Rattle.g_arena_def.specs.Flat.{FlatNode, place_in, region_flat, regions_flat, in_region, in_nodes, in_regions}
 use Rattle.g_arena_def.specs.Edits.{at_with}
-use Rattle.g_arena_laws.proofs.lemmas.Outside.{AreOnce, none_first, none_both, at_most_first, AreOutside, AreApart, outside_append, apart_append, nodes_outside, regions_outside, nodes_apart, later_apart, earlier_apart, times_head}
+use Rattle.g_arena_laws.proofs.lemmas.Outside.{AreOnce, none_first, none_both, at_most_first, AreOutside, AreApart, outside_append, apart_append, nodes_outside, regions_outside, later_apart, earlier_apart}
 
 -- ---- changes of the region of one node
 
@@ -183,15 +180,14 @@ among_later n parent first args ns results rs once own none w =
       parts = λ s test e. w.parts s test (and_parts (every_region test r) (every_in_regions test (w.fill s)) e).1;
       fewer = λ s m. omega (arith, w.fewer s m, times_append m (nodes_ids ns) (regions_ids (w.fill s)));
       outside = λ m e p.
-          let rest = w.outside m e p in
-          (
+          let rest = w.outside m e p in (
             outside_append m (in_nodes (place_in parent first) ns) w.before
-            (nodes_outside m (place_in parent first) ns (omega (arith, once m, e, w.fewer w.here m, ap (λ ss. times m (regions_ids ss)) w.is, times_append m (nodes_ids ns) (regions_ids rs))) p) rest.0,
+                (nodes_outside m (place_in parent first) ns (omega (arith, once m, e, w.fewer w.here m, ap (λ ss. times m (regions_ids ss)) w.is, times_append m (nodes_ids ns) (regions_ids rs))) p) rest.0,
             rest.1,
           );
       apart = (
         apart_append (place_in parent w.place) (in_nodes (place_in parent first) ns) w.before
-        (earlier_apart parent w.place first args ns results (omega (arith, w.number)) (none_both parent (nodes_ids ns) (regions_ids rs) own).0) w.apart.0,
+            (earlier_apart parent w.place first args ns results (omega (arith, w.number)) (none_both parent (nodes_ids ns) (regions_ids rs) own).0) w.apart.0,
         w.apart.1,
       );
     }

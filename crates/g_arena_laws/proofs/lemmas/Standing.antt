@@ -1,15 +1,13 @@
 -- A node that is found in the list of nodes of a well-formed lambda, and where it stands.
-use Rattle.std.proofs.Common.{◌≡◌, ◌≤◌, ◌<◌, ◌+◌, ◌⊎◌, inl, inr, ℕ, zero, suc, ◌==◌, ◌&&◌, ◌||◌, not, nat_lt, Bool, true, false, Option, None, Some, option_map, unwrap_or, List, [], ◌∷◌, ◌++◌, map, length, refl, sym, ap, subst, ◌∙◌, arith, le_of_eq}
-use Rattle.std.specs.Prelude.{slice_get, if◌then◌else◌}
-use Rattle.std.proofs.lemmas.Bool.{and_parts, or_parts, cases_Bool}
+use Rattle.std.proofs.Common.{◌≡◌, ◌<◌, ℕ, suc, ◌==◌, ◌&&◌, ◌||◌, not, nat_lt, Bool, true, false, Option, None, Some, option_map, unwrap_or, List, [], ◌∷◌, map, length, refl, sym, ap, ◌∙◌, arith, le_of_eq}
+use Rattle.std.specs.Prelude.{if◌then◌else◌}
 use Rattle.std.proofs.lemmas.Bool.Decides.{nat_tests}
-use Rattle.std.proofs.lemmas.Option.{same_Some}
 use Rattle.g_graph.specs.declared.op.Kind.{Kind}
 use Rattle.g_graph.specs.declared.op.Op.{Op}
 use Rattle.g_graph.specs.declared.op.Op.TheVariants.{Gamma, Theta}
 use Rattle.g_graph.specs.declared.op.Origin.{Origin}
 use Rattle.g_graph.specs.declared.op.Origin.TheVariants.{Arg, Out}
-use Rattle.g_graph.specs.Plain.{RegionTree, region, NodeTree, node, NodeTrees, node_then, RegionTrees, no_regions, region_then, count_of, id_of, nodes_in, PlainLambda}
+use Rattle.g_graph.specs.Plain.{RegionTree, region, NodeTree, node, NodeTrees, node_then, RegionTrees, id_of, nodes_in, PlainLambda}
 use Rattle.g_graph.specs.Ids.{region_ids}
 use Rattle.g_graph.specs.Signatures.{first_args, op_outputs, outputs_of, output_kinds}
 use Rattle.g_graph.specs.Scope.{same_kind, is_of}
@@ -20,12 +18,10 @@ use Rattle.g_graph.specs.Splice.{joined_nodes}
 use Rattle.g_graph.proofs.lemmas.Indexes.{same_number_true}
 use Rattle.g_graph.proofs.lemmas.KindLists.{kinds_of_some}
 use Rattle.g_graph.proofs.lemmas.Splices.{Split, split_at}
-use Rattle.g_graph.proofs.lemmas.Unique.{counts_of_distinct, same_number, equal_back}
-use Rattle.g_arena_def.specs.Flat.{FlatNode, Flat, body_place, regions_flat, flat_of}
+use Rattle.g_graph.proofs.lemmas.Unique.{counts_of_distinct, same_number}
+use Rattle.g_arena_def.specs.Flat.{FlatNode, body_place, flat_of}
 use Rattle.g_arena_def.specs.Reads.{found, uses_in}
-use Rattle.r_edit.specs.Uses.{is_read, is_output_of}
-use Rattle.r_edit.specs.Places.{stays_at}
-use Rattle.r_edit.specs.Exits.{is_gone_output}
+use Rattle.r_edit.specs.Uses.{is_read}
 use Rattle.r_edit.proofs.lemmas.ExitsFit.{exits_are}
 use Rattle.g_arena_laws.proofs.lemmas.Outside.{AreOnce}
 use Rattle.g_arena_laws.proofs.lemmas.Regions.{IsChangeAt, IsHolder}
@@ -33,7 +29,7 @@ use Rattle.g_arena_laws.proofs.lemmas.Around.{Around, around}
 use Rattle.g_arena_laws.proofs.lemmas.Blocks.{Within}
 use Rattle.g_arena_laws.proofs.lemmas.FromLast.{is_beyond}
 use Rattle.g_arena_laws.proofs.lemmas.Kept.{Fitting, numbers_of, own, here, unread_beyond}
-use Rattle.g_arena_laws.proofs.lemmas.Reading.{region_times, unused, unread, not_used, found_in, uses_here, start_node, node_is_found}
+use Rattle.g_arena_laws.proofs.lemmas.Reading.{unused, unread, not_used, found_in, uses_here}
 
 pub once_in : (l : PlainLambda) → IsWellFormed l → AreOnce (region_ids l.body)
 once_in l well = counts_of_distinct (region_ids l.body) (numbers_of l well).unique
