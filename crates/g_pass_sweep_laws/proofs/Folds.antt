@@ -10,7 +10,7 @@ use Rattle.g_graph.specs.Ids.{region_ids}
 use Rattle.r_sweep_def.specs.Swept.{Logged, tried_by, swept_by}
 use Rattle.g_pass_def.specs.Sweep.{Swept, stepped, tried, in_order}
 use Rattle.g_pass.specs.Sweep.{applies, applied, step, rules}
-use Rattle.g_pass_laws.specs.Laws.{change_of, SweepsAreFolds}
+use Rattle.g_pass_sweep_laws.specs.Laws.{change_of, SweepsAreFolds}
 
 -- a lambda with its steps, in both forms
 abbrev as_swept : Logged → Swept
