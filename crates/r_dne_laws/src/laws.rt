@@ -7,4 +7,6 @@ ghost use Rattle.r_dne_laws.specs.Laws.{DneIsListed, DneSweepsAreListed};
 pub fn dne_is_listed()
     ensures node { DneIsListed }
     ensures sweep { DneSweepsAreListed }
-{}
+{
+    r_dne::laws::dne_keeps_meaning();
+}

@@ -486,7 +486,7 @@ pub alike_then : (r s t : RegionTree) → IsAlike r s → IsAlike s t → IsAlik
 alike_then r s t a b = record { args = b.args ∙ a.args; results = b.results ∙ a.results }
 
 -- around another region in its place, with fewer numbers
-pub around_other : (n : ℕ) (l : PlainLambda) (z : Around n l) (s : RegionTree) → IsAlike z.here s → has_node n (nodes_in s) ≡ true → ((m : ℕ) → times m (region_ids s) ≤ times m (region_ids z.here)) →
+abbrev pub around_other : (n : ℕ) (l : PlainLambda) (z : Around n l) (s : RegionTree) → IsAlike z.here s → has_node n (nodes_in s) ≡ true → ((m : ℕ) → times m (region_ids s) ≤ times m (region_ids z.here)) →
     Around n (record l { body = z.fill s })
 around_other n l z s alike has fewer = record {
   place = z.place;
