@@ -13,3 +13,4 @@ pub mod UsesMove
 pub mod Reading
 pub mod Standing
 pub mod Kinds
+pub mod Listed

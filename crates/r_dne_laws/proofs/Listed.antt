@@ -46,17 +46,14 @@ use Rattle.g_arena_laws.proofs.lemmas.Regions.{IsChangeAt, IsAlike, IsHolder, ha
 use Rattle.g_arena_laws.proofs.lemmas.Around.{Around, around_other}
 use Rattle.g_arena_laws.proofs.lemmas.Blocks.{Within}
 use Rattle.g_arena_laws.proofs.lemmas.Kept.{Fitting, fitting, here, none_first, gamma_within, theta_within, exits_go, entries_go, variables_go, alike_by}
+use Rattle.g_arena_laws.proofs.lemmas.Listed.{filled, changed_if, change_by, is_listed}
 use Rattle.g_arena_laws.proofs.lemmas.NodeGoes.{node_goes}
 use Rattle.g_arena_laws.proofs.lemmas.Reading.{region_times, times_in, nth_region, unused, unread, not_used, start_node, node_is_found, uses_here, uses_below}
 use Rattle.g_arena_laws.proofs.lemmas.Standing.{within, own_kinds, states_are, not_read}
-use Rattle.r_sweep_def.specs.Swept.{Logged, tried_by, swept_by}
-use Rattle.r_dne_laws.specs.Listed.{has_use, some_output_used, gives_some_state, is_dead_in, used_outputs, used_arguments, arguments_of, exits_in, without_exits, entries_in, gamma_in, used_loops, theta_in, shrunk_in, eliminated_in, dne_in, Listed, stepped_in, swept_in}
+use Rattle.r_sweep_def.proofs.lemmas.{listed_sweeps}
+use Rattle.r_dne_laws.specs.Listed.{has_use, some_output_used, gives_some_state, is_dead_in, used_outputs, used_arguments, arguments_of, exits_in, without_exits, entries_in, gamma_in, used_loops, theta_in, shrunk_in, eliminated_in, dne_in}
 use Rattle.r_dne_laws.specs.Laws.{DneIsListed, dne_change, DneSweepsAreListed}
 use Rattle.r_dne_laws.proofs.Tests.{none_less, less_none, same_test, used_is, none_used, output_unused, exits_are_same, exits_are_values, exit_unused, arguments_are_same, entries_unread, loops_are_same, loops_are_values, LoopUnused, loop_unused, kept_others}
-
--- the lambda with another region in the place
-abbrev pub filled : (n : ℕ) (l : PlainLambda) → Around n l → RegionTree → Flat
-filled n l z s = flat_of (record l { body = z.fill s })
 
 unless : {X Y : Type 0} (f : X → Y) (t : Bool) (x : X) → (if t then None else Some (f x)) ≡ option_map f (if t then None else Some x)
 unless f true x = refl
@@ -320,114 +317,15 @@ module _ (n : ℕ) (l : PlainLambda) (z : Around n l) (well : IsWellFormed l) wh
       by true f = ap Some (f refl)
       by false f = shrunk_by args before op inputs rs after results is
 
--- ---- a step
-
-node_none : (n : ℕ) (ns : NodeTrees) → has_node n ns ≡ false → node_at n ns ≡ None
-node_none n no_nodes e = refl
-node_none n (node_then x ns) e =
-    let both = or_parts (id_of x == n) (has_node n ns) e in
-    ap (λ t. if t then Some x else node_at n ns) both.0 ∙ node_none n ns both.1
-
-change_at : (n : ℕ) → IsChangeAt n (dne_here n)
-change_at n (region args ns results) e = ap (option_and_then (eliminated (region args ns results))) (node_none n ns e)
-
--- the rule where the region that holds the node is known
-step_is : (n : ℕ) (l : PlainLambda) (z : Around n l) → (if applies l n then Some (dne n l) else None) ≡ option_map (λ s. record l { body = z.fill s }) (dne_here n z.here)
-step_is n l z =
-    let holder : IsHolder n z.here = record { has = z.has; once = z.once } in
-    let now : region_changed (dne_here n) l.body ≡ option_map z.fill (dne_here n z.here) =
-    ap (region_changed (dne_here n)) (sym z.is) ∙ z.changed_to z.here (record { args = refl; results = refl }) holder (dne_here n) (change_at n) in
-    (λ i. if is_some (now i) then Some (record l { body = unwrap_or (now i) l.body }) else None) ∙ by (dne_here n z.here)
-  where
-    by : (o : Option RegionTree) → (if is_some (option_map z.fill o) then Some (record l { body = unwrap_or (option_map z.fill o) l.body }) else None) ≡ option_map (λ s. record l { body = z.fill s }) o
-    by None = refl
-    by (Some s) = refl
-
-here_is : (n : ℕ) (l : PlainLambda) (w : Within n l) → IsWellFormed l → dne_here n w.around.here ≡ eliminated w.around.here (node n w.op w.inputs w.regions)
-here_is n l w well =
-    let own = node n w.op w.inputs w.regions in
-    let whole = region w.args (joined_nodes w.before (node_then own w.after)) w.results in
-    ap (dne_here n) w.is ∙ ap (option_and_then (eliminated whole)) (node_at-joined n w.before own w.after (none_first n l w (fitting n l w well)) (same_number_true n))
-    ∙ ap (λ r. eliminated r own) (sym w.is)
-
--- ---- a node that is not there
-
-none_both : (n : ℕ) (xs ys : List FlatNode) → found n (xs ++ ys) ≡ None → (found n xs ≡ None) × (found n ys ≡ None)
-none_both n [] ys e = (refl, e)
-none_both n (x ∷ xs) ys e = by (x.id == n) e (λ d. none_both n xs ys d)
-  where
-    by : (t : Bool) → (if t then Some x else found n (xs ++ ys)) ≡ None → (found n (xs ++ ys) ≡ None → (found n xs ≡ None) × (found n ys ≡ None)) →
-        ((if t then Some x else found n xs) ≡ None) × (found n ys ≡ None)
-    by true d f = absurd cc
-    by false d f = f d
-
-first_none : (n id : ℕ) (ns : List ℕ) (y : FlatNode) (xs : List FlatNode) → (if id == n then Some y else found n xs) ≡ None → (found n xs ≡ None → times n ns ≡ 0) → times n (id ∷ ns) ≡ 0
-first_none n id ns y xs e f = by (id == n) e (times_cons n id ns)
-  where
-    by : (t : Bool) → (if t then Some y else found n xs) ≡ None → times n (id ∷ ns) ≡ (if t then 1 else 0) + times n ns → times n (id ∷ ns) ≡ 0
-    by true d c = absurd cc
-    by false d c = omega (arith, c, f d)
-
-mutual
-  none_nodes : (n : ℕ) (p : Place) (ns : NodeTrees) → found n (in_nodes p ns) ≡ None → times n (nodes_ids ns) ≡ 0
-  none_nodes n p no_nodes e = refl
-  none_nodes n p (node_then (node id op inputs rs) xs) e =
-      let y : FlatNode = record { id = id; op = op; inputs = inputs; outputs = kinds_of (outputs_of op rs); regions = regions_flat rs; home = p } in
-      let both = none_both n (y ∷ in_regions id 0 rs) (in_nodes p xs) e in
-      let first = first_none n id (regions_ids rs) y (in_regions id 0 rs) both.0 (λ d. none_regions n id 0 rs d) in
-      omega (arith, times_append n (id ∷ regions_ids rs) (nodes_ids xs), first, none_nodes n p xs both.1)
-
-  none_regions : (n m k : ℕ) (rs : RegionTrees) → found n (in_regions m k rs) ≡ None → times n (regions_ids rs) ≡ 0
-  none_regions n m k no_regions e = refl
-  none_regions n m k (region_then (region args ns results) rs) e =
-      let both = none_both n (in_nodes (place_in m k) ns) (in_regions m (suc k) rs) e in
-      omega (arith, times_append n (nodes_ids ns) (regions_ids rs), none_nodes n (place_in m k) ns both.0, none_regions n m (suc k) rs both.1)
-
-none_changed : (n : ℕ) (l : PlainLambda) → found n (flat_of l).nodes ≡ None → (if applies l n then Some (dne n l) else None) ≡ None
-none_changed n l e = (λ i. if is_some (unchanged l.body e i) then Some (record l { body = unwrap_or (unchanged l.body e i) l.body }) else None)
-  where
-    unchanged : (r : RegionTree) → found n (in_region body_place r) ≡ None → region_changed (dne_here n) r ≡ None
-    unchanged (region args ns results) d =
-        let none = none_nodes n body_place ns d in
-        changed_none (dne_here n) args ns results (change_at n (region args ns results) (has_none n ns none)) (nodes_unchanged n (dne_here n) (change_at n) ns none)
-
 -- ---- the rule at a node
 
+here_is : (n : ℕ) (r : RegionTree) → change_by eliminated n r ≡ dne_here n r
+here_is n (region args ns results) = refl
+
 pub dne_is_listed : DneIsListed
-dne_is_listed l n well = by (found n (flat_of l).nodes) refl
-  where
-    by : (o : Option FlatNode) → found n (flat_of l).nodes ≡ o → dne_in n (flat_of l) ≡ option_map flat_of (if applies l n then Some (dne n l) else None)
-    by None e = ap (option_and_then (eliminated_in (flat_of l))) e ∙ ap (option_map flat_of) (sym (none_changed n l e))
-    by (Some x) e =
-        let w = within n l x well e in
-        let z = w.around in
-        ap (option_and_then (eliminated_in (flat_of l))) (node_is_found n l w) ∙ eliminated_by n l z well w.args w.before w.op w.inputs w.regions w.after w.results w.is
-        ∙ ap (option_map (filled n l z)) (sym (here_is n l w well)) ∙ sym (map_twice flat_of (λ s. record l { body = z.fill s }) (dne_here n z.here)) ∙ ap (option_map flat_of) (sym (step_is n l z))
+dne_is_listed l n well =
+    is_listed eliminated eliminated_in n l well (λ w. eliminated_by n l w.around well w.args w.before w.op w.inputs w.regions w.after w.results w.is)
+    ∙ (λ i. option_map flat_of (changed_if (λ r. here_is n r i) l))
 
--- ---- a sweep
-
-module _ (keeps : (m : ℕ) (k : PlainLambda) → IsWellFormed k → IsWellFormed (dne m k)) where
-  abbrev as_listed : Logged → Listed
-  as_listed s = record { nodes = flat_of s.lambda; steps = s.steps }
-
-  one_step : (n : ℕ) (s : Logged) → IsWellFormed s.lambda → stepped_in n (as_listed s) (dne_in n (flat_of s.lambda)) ≡ as_listed (tried_by dne_change s n)
-  one_step n s well = ap (stepped_in n (as_listed s)) (dne_is_listed s.lambda n well) ∙ by (applies s.lambda n)
-    where
-      by : (t : Bool) → stepped_in n (as_listed s) (option_map flat_of (if t then Some (dne n s.lambda) else None))
-          ≡ as_listed (if t then record { lambda = dne n s.lambda; steps = s.steps ++ record { rule = Dne; node = n } ∷ [] } else s)
-      by true = refl
-      by false = refl
-
-  well_after : (n : ℕ) (s : Logged) → IsWellFormed s.lambda → IsWellFormed (tried_by dne_change s n).lambda
-  well_after n s well = by (applies s.lambda n)
-    where
-      by : (t : Bool) → IsWellFormed (if t then record { lambda = dne n s.lambda; steps = s.steps ++ record { rule = Dne; node = n } ∷ [] } else s).lambda
-      by true = keeps n s.lambda well
-      by false = well
-
-  all_steps : (ns : List ℕ) (s : Logged) → IsWellFormed s.lambda → swept_in ns (as_listed s) ≡ as_listed (swept_by dne_change ns s)
-  all_steps [] s well = refl
-  all_steps (n ∷ ns) s well = ap (swept_in ns) (one_step n s well) ∙ all_steps ns (tried_by dne_change s n) (well_after n s well)
-
-  pub sweeps_are_listed : DneSweepsAreListed
-  sweeps_are_listed l ns steps well = all_steps ns (record { lambda = l; steps = steps }) well
+pub sweeps_are_listed : ((m : ℕ) (k : PlainLambda) → IsWellFormed k → IsWellFormed (dne m k)) → DneSweepsAreListed
+sweeps_are_listed keeps l ns steps well = listed_sweeps dne_change dne_in dne_is_listed keeps ns (record { lambda = l; steps = steps }) well

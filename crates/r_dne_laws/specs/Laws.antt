@@ -8,7 +8,8 @@ use Rattle.g_graph.specs.WellFormed.{IsWellFormed}
 use Rattle.g_arena_def.specs.Flat.{Flat, StandsFor, flat_of}
 use Rattle.r_dne.specs.Rule.{applies, dne}
 use Rattle.r_sweep_def.specs.Swept.{Change, swept_by}
-use Rattle.r_dne_laws.specs.Listed.{dne_in, swept_in}
+use Rattle.r_sweep_def.specs.Listed.{swept_in}
+use Rattle.r_dne_laws.specs.Listed.{dne_in}
 
 -- At a node of the list of a well-formed lambda the rule does what it does in the lambda.
 abbrev pub DneIsListed : Type 0
@@ -22,4 +23,4 @@ abbrev pub DneSweepsAreListed : Type 0
 DneSweepsAreListed =
     (l : PlainLambda) (ns : List ℕ) (steps : List Step) → IsWellFormed l →
     let s = swept_by dne_change ns (record { lambda = l; steps = steps }) in
-    swept_in ns (record { nodes = flat_of l; steps = steps }) ≡ record { nodes = flat_of s.lambda; steps = s.steps }
+    swept_in dne_change dne_in ns (record { nodes = flat_of l; steps = steps }) ≡ record { nodes = flat_of s.lambda; steps = s.steps }

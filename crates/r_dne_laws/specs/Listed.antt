@@ -1,6 +1,5 @@
 -- Dead node elimination on a list of nodes: what a sweep does there at each node.
-use Rattle.std.specs.Prelude.{ℕ, zero, suc, ◌++◌, ◌&&◌, ◌||◌, not, nat_lt, if◌then◌else◌, Bool, false, List, [], ◌∷◌, length, slice_get, option_and_then}
-use Rattle.std.specs.List.{fold}
+use Rattle.std.specs.Prelude.{ℕ, zero, suc, ◌&&◌, ◌||◌, not, nat_lt, if◌then◌else◌, Bool, false, List, [], ◌∷◌, length, slice_get, option_and_then}
 use Rattle.std.specs.declared.option.Option.{Option}
 use Rattle.std.specs.declared.option.Option.TheVariants.{Some, None}
 use Rattle.g_graph.specs.declared.op.Kind.{Kind}
@@ -9,8 +8,6 @@ use Rattle.g_graph.specs.declared.op.Op.{Op}
 use Rattle.g_graph.specs.declared.op.Op.TheVariants.{Gamma, Theta}
 use Rattle.g_graph.specs.declared.op.Origin.{Origin}
 use Rattle.g_graph.specs.declared.op.Origin.TheVariants.{Arg, Out}
-use Rattle.g_graph.specs.declared.steps.Rule.TheVariants.{Dne}
-use Rattle.g_graph.specs.declared.steps.Step.{Step}
 use Rattle.g_graph.specs.Scope.{same_kind}
 use Rattle.g_graph.specs.WellFormed.{some_of, is_origin}
 use Rattle.g_arena_def.specs.declared.place.Place.{Place}
@@ -100,15 +97,3 @@ eliminated_in a x = if is_dead_in a x then Some (node_removed x.id a) else shrun
 -- what the rule makes of a list at a node, where it applies
 abbrev pub dne_in : ℕ → Flat → Option Flat
 dne_in n a = option_and_then (eliminated_in a) (found n a.nodes)
-
--- a list of nodes, and the steps that led there
-pub record Listed : Type 0 where
-  pub nodes : Flat
-  pub steps : List Step
-
-abbrev pub stepped_in : ℕ → Listed → Option Flat → Listed
-stepped_in n s None = s
-stepped_in n s (Some a) = record { nodes = a; steps = s.steps ++ record { rule = Dne; node = n } ∷ [] }
-
-abbrev pub swept_in : List ℕ → Listed → Listed
-swept_in ns s = fold (λ (t : Listed) (n : ℕ). stepped_in n t (dne_in n t.nodes)) s ns
