@@ -94,7 +94,7 @@ inputs_left n k (t ∷ ts) outs is =
 -- ---- the changes
 
 module _ (n : ℕ) (l : PlainLambda) (w : Within n l) where
-  results_state : (c k : ℕ) (f : Origin → Origin) (outs : List Kind) (is : List Origin) (rs : RegionTrees) →
+  pub results_state : (c k : ℕ) (f : Origin → Origin) (outs : List Kind) (is : List Origin) (rs : RegionTrees) →
       each_of (λ j. result_removed (place_in n j) k) c (state n l w f outs is rs) ≡ state n l w f outs is (results_gone c k rs)
   results_state zero k f outs is rs = refl
   results_state (suc c) k f outs is rs =

@@ -155,10 +155,10 @@ out_argument n k [] xs j = refl
 out_argument n k (true ∷ ts) xs j = out_argument n (suc k) ts xs j
 out_argument n k (false ∷ ts) xs j = ap (output_less n k (length (from_last (λ i ys. remove ys i) (suc k) ts xs))) (out_argument n (suc k) ts xs j)
 
-less_other : (n k c m q : ℕ) → (m == n) ≡ false → output_less n k c (Out m q) ≡ Out m q
+pub less_other : (n k c m q : ℕ) → (m == n) ≡ false → output_less n k c (Out m q) ≡ Out m q
 less_other n k c m q e = ap (λ t. if t && (nat_lt k q && nat_lt q c) then Out m (q - 1) else Out m q) e
 
-less_own : (n k c m q : ℕ) → (m == n) ≡ true → output_less n k c (Out m q) ≡ Out m (if nat_lt k q && nat_lt q c then q - 1 else q)
+pub less_own : (n k c m q : ℕ) → (m == n) ≡ true → output_less n k c (Out m q) ≡ Out m (if nat_lt k q && nat_lt q c then q - 1 else q)
 less_own n k c m q e = ap (λ t. if t && (nat_lt k q && nat_lt q c) then Out m (q - 1) else Out m q) e ∙ by (nat_lt k q && nat_lt q c)
   where
     by : (t : Bool) → (if t then Out m (q - 1) else Out m q) ≡ Out m (if t then q - 1 else q)
@@ -188,7 +188,7 @@ abbrev pub is_argument_beyond : (count : ℕ) → Origin → Bool
 is_argument_beyond c (Arg q) = not (nat_lt q c)
 is_argument_beyond c (Out m q) = false
 
-is_there : (q c : ℕ) → not (nat_lt q c) ≡ false → q < c
+pub is_there : (q c : ℕ) → not (nat_lt q c) ≡ false → q < c
 is_there q c e = grind (arith, nat_tests)
 
 stays_there : (t : Bool) → not t ≡ false → t ≡ true

@@ -50,7 +50,7 @@ use Rattle.g_arena_laws.proofs.lemmas.Regional.{results_are, arguments_taken, va
 -- ---- a node of a well-formed lambda
 
 -- what does not name an output of node n
-abbrev IsOther : ℕ → Origin → Type 0
+abbrev pub IsOther : ℕ → Origin → Type 0
 IsOther n o = is_beyond n 0 o ≡ false
 
 after_other : (n : ℕ) (ts : List Bool) (o : Origin) → IsOther n o → output_after n ts o ≡ o
@@ -62,7 +62,7 @@ after_other n ts (Out m q) h = ap (λ t. if t then Out m (place_after ts q) else
     first true true e f = absurd cc
     first true false e f = absurd cc
 
-less_fixes : (n k c : ℕ) (o : Origin) → IsOther n o → output_less n k c o ≡ o
+pub less_fixes : (n k c : ℕ) (o : Origin) → IsOther n o → output_less n k c o ≡ o
 less_fixes n k c (Arg j) h = refl
 less_fixes n k c (Out m q) h = ap (λ t. if t && (nat_lt k q && nat_lt q c) then Out m (q - 1) else Out m q) (first (m == n) (nat_lt q 0) (grind (arith, nat_tests)) h)
   where
@@ -79,7 +79,7 @@ out_fixes n k (false ∷ ts) xs o h =
     ap (output_less n k c) (out_fixes n (suc k) ts xs o h) ∙ less_fixes n k c o h
 
 -- what is kept of lists that name no output of the node
-all_fixed : (n : ℕ) (f : Origin → Origin) → ((o : Origin) → IsOther n o → f o ≡ o) → (os : List Origin) → some_of (is_beyond n 0) os ≡ false → map f os ≡ os
+pub all_fixed : (n : ℕ) (f : Origin → Origin) → ((o : Origin) → IsOther n o → f o ≡ o) → (os : List Origin) → some_of (is_beyond n 0) os ≡ false → map f os ≡ os
 all_fixed n f h [] e = refl
 all_fixed n f h (o ∷ os) e =
     let both = or_parts (is_beyond n 0 o) (some_of (is_beyond n 0) os) e in
@@ -98,7 +98,7 @@ alike_by r s r' s' e f objects k = record {
   results = ap result_kinds f ∙ k.kept.results ∙ ap result_kinds (sym e);
 }
 
-count_same : (xs : List (Option Kind)) (ks : List Kind) → xs ≡ map Some ks → length xs ≤ length ks
+pub count_same : (xs : List (Option Kind)) (ks : List Kind) → xs ≡ map Some ks → length xs ≤ length ks
 count_same xs ks e = le_of_eq (ap length e ∙ counted ks)
   where
     counted : (js : List Kind) → length (map Some js) ≡ length js
