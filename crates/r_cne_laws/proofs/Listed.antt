@@ -1,8 +1,7 @@
 -- The rule on the list of nodes of a well-formed lambda is the rule on the lambda.
-use Rattle.std.proofs.Common.{◌≡◌, ◌≤◌, ◌⊎◌, inl, inr, ℕ, zero, suc, ◌==◌, ◌&&◌, ◌||◌, nat_lt, Bool, true, false, Option, None, Some, option_map, option_and_then, List, [], ◌∷◌, ◌++◌, length, refl, sym, ap, subst, ◌∙◌, arith, append_assoc}
+use Rattle.std.proofs.Common.{◌≡◌, ◌⊎◌, inl, inr, ℕ, ◌==◌, ◌&&◌, nat_lt, Bool, true, false, Option, None, Some, option_map, option_and_then, List, [], ◌∷◌, ◌++◌, length, refl, sym, ap, subst, ◌∙◌, arith, append_assoc}
 use Rattle.std.specs.Prelude.{if◌then◌else◌}
 use Rattle.std.proofs.lemmas.Bool.Decides.{nat_tests}
-use Rattle.g_graph.specs.declared.op.Kind.{Kind}
 use Rattle.g_graph.specs.declared.op.Kind.TheVariants.{Value as ValueKind}
 use Rattle.g_graph.specs.declared.op.Op.{Op}
 use Rattle.g_graph.specs.declared.op.Op.TheVariants.{Const, Undef, Local, Delta, Bin, Un, Load, Store, Clear, PtrEq, Apply, Put, Exit, Get, Gamma, Theta}
@@ -10,18 +9,18 @@ use Rattle.g_graph.specs.declared.op.Origin.{Origin}
 use Rattle.g_graph.specs.declared.op.Origin.TheVariants.{Out}
 use Rattle.g_graph.specs.Plain.{RegionTree, region, NodeTree, node, NodeTrees, no_nodes, node_then, RegionTrees, id_of, PlainLambda}
 use Rattle.g_graph.specs.Ids.{region_ids, nodes_ids, regions_ids}
-use Rattle.g_graph.specs.Signatures.{outputs_of, output_kinds}
+use Rattle.g_graph.specs.Signatures.{outputs_of}
 use Rattle.g_graph.specs.Scope.{same_origin, known}
 use Rattle.g_graph.specs.Views.{same_op}
-use Rattle.g_graph.specs.WellFormed.{kinds_of, IsWellFormed}
+use Rattle.g_graph.specs.WellFormed.{IsWellFormed}
 use Rattle.g_graph.specs.Nodes.{node_at, is_used}
 use Rattle.g_graph.specs.Replace.{region_redirected, origin_replaced}
 use Rattle.g_graph.specs.Splice.{joined_nodes}
 use Rattle.g_graph.proofs.lemmas.Found.{found_at}
 use Rattle.g_graph.proofs.lemmas.Nodes.{KeptWithin}
-use Rattle.g_graph.proofs.lemmas.Unique.{times, times_append}
+use Rattle.g_graph.proofs.lemmas.Unique.{times}
 use Rattle.g_arena_def.specs.declared.place.Place.{Place}
-use Rattle.g_arena_def.specs.Flat.{FlatRegion, FlatNode, Flat, region_flat, regions_flat, in_region, in_nodes, in_regions, flat_of, same_place}
+use Rattle.g_arena_def.specs.Flat.{FlatRegion, FlatNode, Flat, region_flat, in_region, in_nodes, in_regions, flat_of}
 use Rattle.g_arena_def.specs.Reads.{uses_in, region_at}
 use Rattle.r_edit.specs.Lookup.{same_origins, first_of}
 use Rattle.r_edit.specs.Uses.{uses_replaced}
@@ -39,7 +38,7 @@ use Rattle.g_arena_laws.proofs.lemmas.Listed.{filled, changed_if, change_by, is_
 use Rattle.g_arena_laws.proofs.lemmas.Reading.{region_times, unused, unused_times, start_node, uses_here}
 use Rattle.g_arena_laws.proofs.lemmas.UsesMove.{uses_are_moved, redirected_is}
 use Rattle.r_sweep_def.proofs.lemmas.{listed_sweeps}
-use Rattle.r_cne_laws.specs.Listed.{first_in, earlier_in, moved_in, common_in, cne_in}
+use Rattle.r_cne_laws.specs.Listed.{first_in, moved_in, common_in, cne_in}
 use Rattle.r_cne_laws.specs.Laws.{CneIsListed, cne_change, CneSweepsAreListed}
 
 -- ---- the first node of an op and inputs
