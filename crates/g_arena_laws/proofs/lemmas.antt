@@ -14,3 +14,4 @@ pub mod Reading
 pub mod Standing
 pub mod Kinds
 pub mod Listed
+pub mod Carried

@@ -1,7 +1,10 @@
 -- Several changes of one node of a list of nodes, one after the other: variables go from the last to the first, so that
 -- those before them keep their places.
 use Rattle.std.specs.Prelude.{ℕ, zero, suc, Bool, if◌then◌else◌, List, [], ◌∷◌}
+use Rattle.std.specs.declared.option.Option.{Option}
+use Rattle.std.specs.declared.option.Option.TheVariants.{Some, None}
 use Rattle.g_graph.specs.declared.op.Origin.{Origin}
+use Rattle.g_graph.specs.declared.op.Origin.TheVariants.{Out}
 use Rattle.g_arena_def.specs.declared.place.Place.{Place}
 use Rattle.g_arena_def.specs.Flat.{Flat, place_in}
 use Rattle.g_arena_def.specs.Reads.{uses_in}
@@ -46,3 +49,15 @@ uses_changed p from to (suc c) a = use_changed p from to (uses_changed p from to
 
 abbrev pub uses_moved : Place → (from to : Origin) → Flat → Flat
 uses_moved p from to a = uses_changed p from to (uses_in p from a) a
+
+-- Uses of outputs of node n move to what these carry, from the last to the first, counted from a first one; and an exit
+-- variable that carries an origin goes, once its uses have moved.
+abbrev pub uses_carried : (n : ℕ) → Place → (first : ℕ) → (carried : List (Option Origin)) → Flat → Flat
+uses_carried n p k [] a = a
+uses_carried n p k (None ∷ cs) a = uses_carried n p (suc k) cs a
+uses_carried n p k (Some o ∷ cs) a = uses_moved p (Out n k) o (uses_carried n p (suc k) cs a)
+
+abbrev pub exits_carried : (n count : ℕ) → Place → (first : ℕ) → (carried : List (Option Origin)) → Flat → Flat
+exits_carried n c p k [] a = a
+exits_carried n c p k (None ∷ cs) a = exits_carried n c p (suc k) cs a
+exits_carried n c p k (Some o ∷ cs) a = exit_removed n c k (uses_moved p (Out n k) o (exits_carried n c p (suc k) cs a))

@@ -49,7 +49,7 @@ each_keeps c f h = record { ids = ids c; count = each_count c f }
     ids zero rs = refl
     ids (suc d) rs = h d (each_of (λ j. regions_with j f) d rs) ∙ ids d rs
 
-from_last-keeps : (f : ℕ → RegionTrees → RegionTrees) → ((k : ℕ) → Keeps (f k)) → (k : ℕ) (ts : List Bool) → Keeps (from_last f k ts)
+pub from_last-keeps : (f : ℕ → RegionTrees → RegionTrees) → ((k : ℕ) → Keeps (f k)) → (k : ℕ) (ts : List Bool) → Keeps (from_last f k ts)
 from_last-keeps f h k [] = record { ids = λ rs. refl; count = λ rs. refl }
 from_last-keeps f h k (true ∷ ts) = from_last-keeps f h (suc k) ts
 from_last-keeps f h k (false ∷ ts) =
