@@ -1,13 +1,12 @@
 -- A sweep is the fold of the test and the change of its rule.
-use Rattle.std.proofs.Common.{◌≡◌, ◌++◌, ℕ, Bool, true, false, List, [], ◌∷◌, Option, None, Some, refl, sym, ap, ◌∙◌}
+use Rattle.std.proofs.Common.{◌≡◌, ◌++◌, ℕ, Bool, true, false, List, [], ◌∷◌, None, Some, refl, ap, ◌∙◌}
 use Rattle.std.specs.Prelude.{if◌then◌else◌}
 use Rattle.std.specs.List.{fold}
 use Rattle.g_graph.specs.declared.steps.Rule.{Rule}
 use Rattle.g_graph.specs.declared.steps.Rule.TheVariants.{Fold, Cne, Dne, Inv, Push, Pull, Invert, Unroll, Inline}
-use Rattle.g_graph.specs.declared.steps.Step.{Step}
 use Rattle.g_graph.specs.Plain.{PlainLambda}
 use Rattle.g_graph.specs.Ids.{region_ids}
-use Rattle.r_sweep_def.specs.Swept.{Logged, tried_by, swept_by}
+use Rattle.r_sweep_def.specs.Swept.{Logged, tried_by}
 use Rattle.g_pass_def.specs.Sweep.{Swept, stepped, tried, in_order}
 use Rattle.g_pass.specs.Sweep.{applies, applied, step, rules}
 use Rattle.g_pass_sweep_laws.specs.Laws.{change_of, SweepsAreFolds}

@@ -1,59 +1,52 @@
 -- The rule on the list of nodes of a well-formed lambda is the rule on the lambda.
-use Rattle.std.specs.Option.{option_or}
-use Rattle.std.proofs.Common.{◌≡◌, ◌≤◌, ◌<◌, ◌+◌, ◌⊎◌, inl, inr, ℕ, zero, suc, ◌==◌, ◌&&◌, ◌||◌, not, nat_lt, Bool, true, false, Option, None, Some, is_some, unwrap_or, option_map, option_and_then, List, [], ◌∷◌, ◌++◌, map, length, refl, sym, ap, subst, ◌∙◌, arith}
+use Rattle.std.proofs.Common.{◌≡◌, ◌≤◌, ◌+◌, ℕ, suc, ◌==◌, ◌&&◌, ◌||◌, not, nat_lt, Bool, true, false, None, Some, option_map, List, ◌∷◌, map, length, refl, sym, ap, subst, ◌∙◌, arith}
 use Rattle.std.specs.Prelude.{if◌then◌else◌}
-use Rattle.std.specs.List.{fold}
 use Rattle.std.proofs.lemmas.Bool.{and_parts, or_parts, or_from}
-use Rattle.std.proofs.lemmas.Bool.Decides.{nat_tests}
 use Rattle.g_graph.specs.declared.op.Kind.{Kind}
 use Rattle.g_graph.specs.declared.op.Kind.TheVariants.{Memory, Io}
 use Rattle.g_graph.specs.declared.op.Op.{Op}
 use Rattle.g_graph.specs.declared.op.Op.TheVariants.{Gamma, Theta}
 use Rattle.g_graph.specs.declared.op.Origin.{Origin}
 use Rattle.g_graph.specs.declared.op.Origin.TheVariants.{Arg, Out}
-use Rattle.g_graph.specs.Plain.{RegionTree, region, NodeTree, node, NodeTrees, no_nodes, node_then, RegionTrees, no_regions, region_then, count_of, id_of, nodes_in, PlainLambda}
-use Rattle.g_graph.specs.Ids.{region_ids, nodes_ids, regions_ids}
-use Rattle.g_graph.specs.declared.steps.Rule.TheVariants.{Dne}
+use Rattle.g_graph.specs.Plain.{RegionTree, region, NodeTree, node, NodeTrees, node_then, RegionTrees, no_regions, region_then, count_of, nodes_in, PlainLambda}
+use Rattle.g_graph.specs.Ids.{region_ids}
 use Rattle.g_graph.specs.Signatures.{first_args, outputs_of, output_kinds}
-use Rattle.g_graph.specs.Scope.{is_of, same_kind, same_origin}
-use Rattle.g_graph.specs.Change.{has_node, region_changed, lambda_changed}
+use Rattle.g_graph.specs.Scope.{is_of, same_origin}
+use Rattle.g_graph.specs.Change.{has_node}
 use Rattle.g_graph.specs.WellFormed.{some_of, kinds_of, region_fits, every_region, IsWellFormed}
-use Rattle.g_graph.specs.Nodes.{node_at, nodes_use, is_used}
+use Rattle.g_graph.specs.Nodes.{nodes_use, is_used}
 use Rattle.g_graph.specs.Replace.{nodes_redirected}
 use Rattle.g_graph.specs.Splice.{joined_nodes}
-use Rattle.g_graph.proofs.lemmas.Found.{node_at-joined}
 use Rattle.g_graph.proofs.lemmas.Indexes.{same_number_true, has_node-joined}
 use Rattle.g_graph.proofs.lemmas.Nodes.{KeptWithin}
 use Rattle.g_graph.proofs.lemmas.Numbers.{numbered_fewer}
-use Rattle.g_graph.proofs.lemmas.Unique.{times, times_append, times_cons, same_number}
-use Rattle.g_mean.specs.Silent.{GivesNoState}
-use Rattle.g_arena_def.specs.declared.place.Place.{Place}
-use Rattle.g_arena_def.specs.Flat.{FlatRegion, FlatNode, Flat, body_place, place_in, regions_flat, in_region, in_nodes, in_regions, flat_of}
-use Rattle.g_arena_def.specs.Reads.{found, uses_in}
+use Rattle.g_graph.proofs.lemmas.Unique.{times, same_number}
+use Rattle.g_arena_def.specs.Flat.{FlatRegion, FlatNode, Flat, regions_flat, flat_of}
+use Rattle.g_arena_def.specs.Reads.{uses_in}
 use Rattle.g_arena_def.specs.Edits.{node_removed}
 use Rattle.r_edit.specs.Places.{stays_at, kept, drops_values}
 use Rattle.r_edit.specs.InPlace.{all_stay}
 use Rattle.r_edit.specs.Uses.{is_read, is_output_of}
 use Rattle.r_edit.specs.Removal.{region_without}
 use Rattle.r_edit.specs.Exits.{regions_giving, output_after, is_gone_output, exits_kept}
-use Rattle.r_edit.specs.Entries.{some_reads, is_gone_argument, entries_kept}
+use Rattle.r_edit.specs.Entries.{is_gone_argument, entries_kept}
 use Rattle.r_edit.specs.Variables.{loop_reads, variables_kept}
 use Rattle.r_edit.proofs.lemmas.Exits.{giving_joined}
 use Rattle.r_edit.proofs.lemmas.ExitsFit.{exits_kept_fit}
-use Rattle.r_dne.specs.Rule.{gives_state, is_dead, exits_of, entries_of, used_exits, gamma_shrunk, variables_of, theta_shrunk, shrunk, eliminated, dne_here, applies, dne}
+use Rattle.r_dne.specs.Rule.{gives_state, is_dead, exits_of, entries_of, used_exits, gamma_shrunk, variables_of, theta_shrunk, shrunk, eliminated, dne_here, dne}
 use Rattle.g_arena_laws.specs.Removals.{exits_removed, entries_removed, variables_removed}
-use Rattle.g_arena_laws.proofs.lemmas.Regions.{IsChangeAt, IsAlike, IsHolder, has_none, changed_none, nodes_unchanged, map_twice}
+use Rattle.g_arena_laws.proofs.lemmas.Regions.{IsAlike}
 use Rattle.g_arena_laws.proofs.lemmas.Around.{Around, around_other}
 use Rattle.g_arena_laws.proofs.lemmas.Blocks.{Within}
 use Rattle.g_arena_laws.proofs.lemmas.Kept.{Fitting, fitting, here, none_first, gamma_within, theta_within, exits_go, entries_go, variables_go, alike_by}
 use Rattle.g_arena_laws.proofs.lemmas.Listed.{filled, changed_if, change_by, is_listed}
 use Rattle.g_arena_laws.proofs.lemmas.NodeGoes.{node_goes}
-use Rattle.g_arena_laws.proofs.lemmas.Reading.{region_times, times_in, nth_region, unused, unread, not_used, start_node, node_is_found, uses_here, uses_below}
-use Rattle.g_arena_laws.proofs.lemmas.Standing.{within, own_kinds, states_are, not_read}
+use Rattle.g_arena_laws.proofs.lemmas.Reading.{unread, not_used, start_node, uses_here, uses_below}
+use Rattle.g_arena_laws.proofs.lemmas.Standing.{own_kinds, states_are, not_read}
 use Rattle.r_sweep_def.proofs.lemmas.{listed_sweeps}
-use Rattle.r_dne_laws.specs.Listed.{has_use, some_output_used, gives_some_state, is_dead_in, used_outputs, used_arguments, arguments_of, exits_in, without_exits, entries_in, gamma_in, used_loops, theta_in, shrunk_in, eliminated_in, dne_in}
+use Rattle.r_dne_laws.specs.Listed.{has_use, some_output_used, gives_some_state, is_dead_in, used_arguments, arguments_of, exits_in, without_exits, entries_in, gamma_in, used_loops, theta_in, shrunk_in, eliminated_in, dne_in}
 use Rattle.r_dne_laws.specs.Laws.{DneIsListed, dne_change, DneSweepsAreListed}
-use Rattle.r_dne_laws.proofs.Tests.{none_less, less_none, same_test, used_is, none_used, output_unused, exits_are_same, exits_are_values, exit_unused, arguments_are_same, entries_unread, loops_are_same, loops_are_values, LoopUnused, loop_unused, kept_others}
+use Rattle.r_dne_laws.proofs.Tests.{less_none, same_test, used_is, none_used, output_unused, exits_are_same, exits_are_values, exit_unused, arguments_are_same, entries_unread, loops_are_same, loops_are_values, LoopUnused, loop_unused, kept_others}
 
 unless : {X Y : Type 0} (f : X → Y) (t : Bool) (x : X) → (if t then None else Some (f x)) ≡ option_map f (if t then None else Some x)
 unless f true x = refl

@@ -1,8 +1,8 @@
 -- The tests of the rule, on a list of nodes and in the lambda.
-use Rattle.std.proofs.Common.{◌≡◌, ◌≤◌, ◌<◌, ◌+◌, ◌⊎◌, inl, inr, ℕ, zero, suc, ◌==◌, ◌&&◌, ◌||◌, not, nat_lt, Bool, true, false, Option, None, Some, List, [], ◌∷◌, ◌++◌, map, length, refl, sym, ap, subst, ◌∙◌, arith}
+use Rattle.std.proofs.Common.{◌≡◌, ◌≤◌, ◌<◌, ◌+◌, ℕ, zero, suc, ◌&&◌, ◌||◌, not, nat_lt, Bool, true, false, Option, Some, List, [], ◌∷◌, map, length, refl, sym, ap, subst, ◌∙◌, arith}
 use Rattle.std.specs.Prelude.{slice_get, if◌then◌else◌}
 use Rattle.std.proofs.Math.Bool.{or_assoc}
-use Rattle.std.proofs.lemmas.Bool.{and_parts, or_parts, or_from}
+use Rattle.std.proofs.lemmas.Bool.{or_parts, or_from}
 use Rattle.std.proofs.lemmas.Bool.Decides.{nat_tests}
 use Rattle.g_graph.specs.declared.op.Kind.{Kind}
 use Rattle.g_graph.specs.declared.op.Kind.TheVariants.{Value}
@@ -14,7 +14,7 @@ use Rattle.g_graph.specs.WellFormed.{some_of, is_origin}
 use Rattle.g_graph.specs.Nodes.{nodes_use, is_used}
 use Rattle.g_graph.proofs.lemmas.Unique.{equal_back}
 use Rattle.g_arena_def.specs.declared.place.Place.{Place}
-use Rattle.g_arena_def.specs.Flat.{FlatRegion, FlatNode, Flat, place_in}
+use Rattle.g_arena_def.specs.Flat.{FlatNode, Flat, place_in}
 use Rattle.g_arena_def.specs.Reads.{times, uses_in}
 use Rattle.r_edit.specs.Places.{stays_at, kept, drops_values}
 use Rattle.r_edit.specs.Uses.{is_read}
@@ -22,7 +22,7 @@ use Rattle.r_edit.specs.Entries.{some_reads, is_gone_argument}
 use Rattle.r_edit.proofs.lemmas.Kept.{some_fewer}
 use Rattle.r_dne.specs.Rule.{used_exits, some_uses, used_entries, others_use, used_variables}
 use Rattle.g_arena_laws.proofs.lemmas.Reading.{nodes_times, region_times, times_in, nth_region, unused, unused_times, unread}
-use Rattle.r_dne_laws.specs.Listed.{has_use, some_output_used, used_outputs, some_region_uses, used_arguments, own_use, used_loops}
+use Rattle.r_dne_laws.specs.Listed.{has_use, some_output_used, used_outputs, some_region_uses, used_arguments, used_loops}
 
 pub same_test : (a b : Bool) → (a ≡ false → b ≡ false) → (b ≡ false → a ≡ false) → a ≡ b
 same_test true true f g = refl
@@ -39,10 +39,6 @@ less_none c e = grind (arith, nat_tests)
 pub used_is : (o : Origin) (r : RegionTree) → is_used o r ≡ nat_lt 0 (region_times o r)
 used_is o r =
     same_test (is_used o r) (nat_lt 0 (region_times o r)) (λ e. none_less (region_times o r) (unused_times o r e)) (λ e. unused o r (less_none (region_times o r) e))
-
-not_false : (b : Bool) → not b ≡ false → b ≡ true
-not_false true e = refl
-not_false false e = absurd cc
 
 -- ---- outputs
 

@@ -1,11 +1,11 @@
 -- The laws of the rule on lists of nodes.
-use Rattle.std.specs.Prelude.{◌≡◌, ℕ, if◌then◌else◌, List, option_map, reverse}
+use Rattle.std.specs.Prelude.{◌≡◌, ℕ, if◌then◌else◌, List, option_map}
 use Rattle.std.specs.declared.option.Option.TheVariants.{Some, None}
 use Rattle.g_graph.specs.declared.steps.Rule.TheVariants.{Dne}
 use Rattle.g_graph.specs.declared.steps.Step.{Step}
 use Rattle.g_graph.specs.Plain.{PlainLambda}
 use Rattle.g_graph.specs.WellFormed.{IsWellFormed}
-use Rattle.g_arena_def.specs.Flat.{Flat, StandsFor, flat_of}
+use Rattle.g_arena_def.specs.Flat.{flat_of}
 use Rattle.r_dne.specs.Rule.{applies, dne}
 use Rattle.r_sweep_def.specs.Swept.{Change, swept_by}
 use Rattle.r_sweep_def.specs.Listed.{swept_in}

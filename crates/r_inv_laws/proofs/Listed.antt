@@ -1,5 +1,5 @@
 -- The rule on the list of nodes of a well-formed lambda is the rule on the lambda.
-use Rattle.std.proofs.Common.{◌≡◌, ◌≤◌, ◌<◌, ◌+◌, ℕ, zero, suc, ◌==◌, ◌&&◌, ◌||◌, nat_lt, Bool, true, false, Option, None, Some, is_some, unwrap_or, option_map, option_and_then, not, List, [], ◌∷◌, ◌++◌, map, length, refl, sym, ap, subst, ◌∙◌, arith}
+use Rattle.std.proofs.Common.{◌≡◌, ◌≤◌, ◌+◌, ℕ, zero, suc, ◌==◌, ◌&&◌, ◌||◌, nat_lt, Bool, true, false, Option, None, Some, is_some, unwrap_or, option_map, option_and_then, not, List, [], ◌∷◌, ◌++◌, map, length, refl, sym, ap, subst, ◌∙◌, arith}
 use Rattle.std.specs.Prelude.{slice_get, if◌then◌else◌}
 use Rattle.std.specs.List.{remove}
 use Rattle.std.proofs.lemmas.Bool.{and_parts, or_parts}
@@ -22,11 +22,11 @@ use Rattle.g_graph.specs.Splice.{joined_nodes}
 use Rattle.g_graph.proofs.lemmas.Indexes.{same_number_true, same_kind_true}
 use Rattle.g_graph.proofs.lemmas.KindLists.{kinds_of_some}
 use Rattle.g_graph.proofs.lemmas.Unique.{equal_back}
-use Rattle.g_arena_def.specs.Flat.{FlatRegion, FlatNode, Flat, in_nodes, in_regions, regions_flat, flat_of}
+use Rattle.g_arena_def.specs.Flat.{FlatNode, in_nodes, in_regions, regions_flat, flat_of}
 use Rattle.g_arena_def.specs.Reads.{uses_in}
 use Rattle.g_arena_def.specs.Edits.{inputs_at}
 use Rattle.r_edit.specs.Places.{kept, place_after}
-use Rattle.r_edit.specs.Uses.{nodes_read, is_read}
+use Rattle.r_edit.specs.Uses.{nodes_read}
 use Rattle.r_edit.specs.Exits.{regions_giving}
 use Rattle.r_edit.specs.InPlace.{redirected_after, outputs_redirected}
 use Rattle.r_edit.specs.Carried.{outer, all_pass, passed, output_carried, staying}
@@ -37,7 +37,7 @@ use Rattle.r_edit.proofs.lemmas.ExitsFit.{gives_kept}
 use Rattle.r_edit.proofs.lemmas.Carried.{carrying_joined}
 use Rattle.r_edit.proofs.lemmas.CarriedExits.{exits_carried_fit}
 use Rattle.r_edit.proofs.lemmas.CarriedUses.{uses_carried_fit}
-use Rattle.r_inv.specs.Rule.{exits_from, variables_from, some_used, carried_exits, carried_variables, exits_moved, uses_moved, moved, inv_here, inv}
+use Rattle.r_inv.specs.Rule.{exits_from, variables_from, some_used, carried_exits, exits_moved, uses_moved, moved, inv_here, inv}
 use Rattle.g_arena_laws.specs.Removals.{from_last, uses_carried, exits_carried}
 use Rattle.g_arena_laws.proofs.lemmas.Regions.{IsAlike}
 use Rattle.g_arena_laws.proofs.lemmas.Around.{Around}
@@ -45,13 +45,13 @@ use Rattle.g_arena_laws.proofs.lemmas.Inputs.{inputs_nodes}
 use Rattle.g_arena_laws.proofs.lemmas.Blocks.{Within, state, state_start, state_end, region_now, flat_with, node_now, none_parts, place}
 use Rattle.g_arena_laws.proofs.lemmas.FromLast.{from_last-kept, is_beyond, same_origins, same_nodes}
 use Rattle.g_arena_laws.proofs.lemmas.Regional.{results_are}
-use Rattle.g_arena_laws.proofs.lemmas.Kept.{IsOther, Fitting, fitting, here, none_first, unread_before, unread_own, unread_beyond, before_stay, all_fixed, count_same, alike_by, gamma_within, theta_within}
+use Rattle.g_arena_laws.proofs.lemmas.Kept.{IsOther, Fitting, fitting, here, none_first, unread_own, unread_beyond, before_stay, all_fixed, count_same, alike_by, gamma_within, theta_within}
 use Rattle.g_arena_laws.proofs.lemmas.Carried.{AreOther, origin_moved, origin_gone, moved_state, gone_state, gone_fixes, moved_fixes, moved_is, gone_is}
 use Rattle.g_arena_laws.proofs.lemmas.Listed.{filled, changed_if, change_by, is_listed}
 use Rattle.g_arena_laws.proofs.lemmas.Reading.{region_times, unused, unused_times, start_node, uses_here}
 use Rattle.g_arena_laws.proofs.lemmas.Standing.{own_kinds}
 use Rattle.r_sweep_def.proofs.lemmas.{listed_sweeps}
-use Rattle.r_inv_laws.specs.Listed.{all_pass_in, passed_in, exits_in, some_use, gamma_in, theta_in, moved_by, moved_in, inv_in}
+use Rattle.r_inv_laws.specs.Listed.{all_pass_in, passed_in, exits_in, some_use, gamma_in, theta_in, moved_in, inv_in}
 use Rattle.r_inv_laws.specs.Laws.{InvIsListed, inv_change, InvSweepsAreListed}
 
 -- ---- tests

@@ -1,28 +1,27 @@
 -- Uses of outputs that move to what these carry, one output after the other.
-use Rattle.std.proofs.Common.{◌≡◌, ◌≤◌, ◌<◌, ◌+◌, ◌-◌, ◌⊎◌, inl, inr, ℕ, zero, suc, ◌==◌, ◌&&◌, ◌||◌, not, nat_lt, Bool, true, false, Option, None, Some, is_none, unwrap_or, List, [], ◌∷◌, ◌++◌, map, length, refl, sym, ap, subst, ◌∙◌, arith}
+use Rattle.std.proofs.Common.{◌≡◌, ◌≤◌, ◌<◌, ◌+◌, ◌-◌, ℕ, zero, suc, ◌==◌, ◌&&◌, not, nat_lt, Bool, true, false, Option, None, Some, unwrap_or, List, [], ◌∷◌, map, length, refl, sym, ap, subst, ◌∙◌, arith}
 use Rattle.std.specs.Prelude.{slice_get, if◌then◌else◌}
 use Rattle.std.specs.List.{remove}
-use Rattle.std.proofs.lemmas.Bool.{cases_Bool, ne_eqb, or_parts}
+use Rattle.std.proofs.lemmas.Bool.{ne_eqb}
 use Rattle.std.proofs.lemmas.Bool.Decides.{nat_tests}
 use Rattle.std.proofs.lemmas.Option.{same_Some}
 use Rattle.g_graph.specs.declared.op.Kind.{Kind}
 use Rattle.g_graph.specs.declared.op.Origin.{Origin}
 use Rattle.g_graph.specs.declared.op.Origin.TheVariants.{Arg, Out}
-use Rattle.g_graph.specs.Plain.{RegionTrees, count_of, PlainLambda}
+use Rattle.g_graph.specs.Plain.{RegionTrees, PlainLambda}
 use Rattle.g_graph.specs.Signatures.{joined}
 use Rattle.g_graph.specs.Scope.{same_origin}
 use Rattle.g_graph.specs.Replace.{origin_replaced}
 use Rattle.g_graph.proofs.lemmas.Indexes.{same_number_true}
 use Rattle.g_graph.proofs.lemmas.Unique.{equal_back, same_number}
 use Rattle.g_arena_def.specs.Flat.{place_in}
-use Rattle.g_arena_def.specs.Reads.{region_at}
-use Rattle.g_arena_def.specs.Edits.{uses_with, output_less, result_removed}
+use Rattle.g_arena_def.specs.Edits.{output_less, result_removed}
 use Rattle.r_edit.specs.Places.{stays_at, place_after}
 use Rattle.r_edit.specs.Carried.{output_carried, staying}
 use Rattle.g_arena_laws.specs.Removals.{from_last, each_of, exit_removed, uses_moved, uses_carried, exits_carried}
 use Rattle.g_arena_laws.proofs.lemmas.Inputs.{map_map, map_id}
 use Rattle.g_arena_laws.proofs.lemmas.Blocks.{Within, HaveNumbers, place, state, record_now, nodes_now, node_now, state_uses, state_output}
-use Rattle.g_arena_laws.proofs.lemmas.FromLast.{behind, from_last-kept, places, places_are, less_other, less_own, is_beyond, is_there}
+use Rattle.g_arena_laws.proofs.lemmas.FromLast.{behind, places, places_are, less_own, is_beyond, is_there}
 use Rattle.g_arena_laws.proofs.lemmas.Composed.{results_gone, results_state, results_keep, from_last-keeps}
 use Rattle.g_arena_laws.proofs.lemmas.Kept.{IsOther, less_fixes}
 use Rattle.g_arena_laws.proofs.lemmas.UsesMove.{uses_are_moved}
