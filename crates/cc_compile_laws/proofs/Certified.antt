@@ -13,7 +13,7 @@ use Rattle.g_graph.specs.Plain.{PlainLambda, PlainOptimised}
 use Rattle.g_graph.specs.Program.{lambda_values}
 use Rattle.g_build.specs.Passed.{limit_passed}
 use Rattle.g_build_def.specs.Functions as built
-use Rattle.g_build_def.specs.Functions.{graph, lambdas_made, names}
+use Rattle.g_build_def.specs.Functions.{graph, lambdas_made}
 use Rattle.g_build_laws.specs.BuiltLaws.{WellTypedAreBuilt}
 use Rattle.g_build_count_laws.specs.Laws.{NumbersAreFew}
 use Rattle.g_pass_order.specs.Calls.{no_lambda}
