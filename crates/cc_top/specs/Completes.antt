@@ -1,11 +1,16 @@
 -- A command that has what it asks for, and none of whose calls failed, is done, or memory ran out.
-use Rattle.std.specs.Prelude.{◌≡◌, ◌⊎◌, ℕ, true, List, Option, Some, None, Ok}
+use Rattle.std.specs.Prelude.{◌≡◌, ◌≤◌, ◌⊎◌, ℕ, true, List, length, Option, Some, None, Ok}
 use Rattle.std.specs.Option.{ForSome}
+use Rattle.limits.specs.Limits.{most_sweeps}
 use Rattle.g_graph.specs.declared.steps.Rule.{Rule}
 use Rattle.c_typed.specs.Typed.{ProgramTree}
 use Rattle.elf_file.specs.Loading.{Executable, loaded}
 use Rattle.cc_command.specs.Command.{Command, accept, build, run, generate, check}
+use Rattle.cc_watch.specs.Rows.{PlainRow}
+use Rattle.cc_watch.specs.Texts.{log_text}
+use Rattle.cc_source_laws.specs.SourceLaws.{AreBytes}
 use Rattle.cc_source.specs.Accepted.{Accepts}
+use Rattle.cc_compile.specs.Compiled.{IsCompiledUnder}
 use Rattle.cc_io.specs.Faults.{Increased}
 use Rattle.cc_io.specs.Files.{Name, content}
 use Rattle.cc_outside.specs.Outside.{IfKnown, ReadFails, WriteFails, FilesSeen, Outside, StreamSeen}
@@ -42,11 +47,16 @@ abbrev pub AcceptCompletes : (status : ℕ) (input input' output output' : Strea
 AcceptCompletes status input input' output output' =
     Works input input' → Works output output' → ForSome input.bytes (λ text. (p : ProgramTree) → Accepts text p → IsDone status)
 
--- a check of known files, of which the log certifies the image
+-- a check of known files: the log certifies the image; or log and image are those of a build of the source, which holds bytes, under any recipe
 pub record CheckCompletes (source log image : Name) (status : ℕ) (before after : FilesSeen) : Type 0 where
   pub certified :
       (ReadFails source before after → ⊥) → (ReadFails log before after → ⊥) → (ReadFails image before after → ⊥) →
       ForSome before.known (λ files. Certifies (content source files) (content log files) (content image files) → IsDone status)
+  pub built :
+      (ReadFails source before after → ⊥) → (ReadFails log before after → ⊥) → (ReadFails image before after → ⊥) →
+      ForSome before.known (λ files.
+      AreBytes (content source files) → (p : ProgramTree) → Accepts (content source files) p → (recipe : List Rule) → length recipe ≤ most_sweeps →
+      (rows : List PlainRow) → IsCompiledUnder recipe p (content image files) rows → content log files ≡ log_text rows → IsDone status)
 
 abbrev pub Completes : {W : Type 0} (named : W → List ℕ) → Option Command → (status : ℕ) → (before after : Outside) → List W → Type 0
 Completes named None status before after ws = Unit {0}

@@ -6,6 +6,8 @@
 //! Always: a refused build creates no file.
 #![tactic(auto)]
 
+pub mod laws;
+
 ghost use Rattle.std.specs.Prelude.{ℕ, List, map};
 ghost use Rattle.std.specs.String.{string_bytes};
 ghost use Rattle.cc_command.specs.Command.{command_of};
@@ -108,6 +110,7 @@ pub fn top<H: Threads + Wait + Sync, F: Files, I: Source, O: Sink, E: Sink, G: G
 {
     cc_refusal::laws::accepted_sources_are_not_refused();
     cc_certify::laws::certified_is_told();
+    cc_compile_laws::laws::logs_certify_images();
     let ending = carry_out(rt, alloc, words, files, input, output, gate, watchers);
     tell(report, &ending)
 }
