@@ -83,22 +83,24 @@ run-done image steps ReadFault before after h reads input output = elim h.cause 
 run-done image steps WriteFault before after h reads input output = absurd (output h.cause)
 run-done image steps _ before after h reads input output = absurd h.cause
 
+certified-done : CertifiedIsTold → (source log image : Name) (ended : Outcome) (before after : FilesSeen) → CheckEnds source log image ended before after
+    → (ReadFails source before after → ⊥) → (ReadFails log before after → ⊥) → (ReadFails image before after → ⊥)
+    → ForSome before.known (λ files. Certifies (content source files) (content log files) (content image files) → IsDone (status_of ended))
+certified-done told source log image ended before after ends a b d files is certifies =
+    elim (told source log image ended before after ends a b d files is certifies) [
+      | inl certified ↦ inl (ap status_of certified)
+      | inr memory ↦ inr (ap status_of memory)
+    ]
+
 check-done : CertifiedIsTold → LogsCertifyImages → (source log image : Name) (ended : Outcome) (before after : FilesSeen) → CheckEnds source log image ended before after
     → CheckCompletes source log image (status_of ended) before after
 check-done told certify source log image ended before after ends = record {
-  certified = done;
+  certified = certified-done told source log image ended before after ends;
   built = λ a b d files is bytes p accepted recipe short rows compiled log_is.
-      done a b d files is
+      certified-done told source log image ended before after ends a b d files is
       (subst (λ l. Certifies (content source files) l (content image files)) (sym log_is)
       (certify (content source files) bytes p accepted recipe short (content image files) rows compiled));
 }
-where
-  done : (ReadFails source before after → ⊥) → (ReadFails log before after → ⊥) → (ReadFails image before after → ⊥)
-      → ForSome before.known (λ files. Certifies (content source files) (content log files) (content image files) → IsDone (status_of ended))
-  done a b d files is certifies = elim (told source log image ended before after ends a b d files is certifies) [
-    | inl certified ↦ inl (ap status_of certified)
-    | inr memory ↦ inr (ap status_of memory)
-  ]
 
 -- ---- the command
 
