@@ -1,7 +1,0 @@
--- How keys are stored with their nodes.
-use Rattle.std.specs.Prelude.{ℕ, List, map}
-use Rattle.g_arena.specs.declared.keys.Key.{Key}
-use Rattle.g_arena.specs.Kept.{Kept}
-
-abbrev pub keys_seen : List (Key × ℕ) → List Kept
-keys_seen ks = map (λ k. record { home = k.0.home; op = k.0.op; inputs = k.0.inputs.items; node = k.1 }) ks

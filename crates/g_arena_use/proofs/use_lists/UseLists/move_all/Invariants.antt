@@ -1,0 +1,10 @@
+use Rattle.std.proofs.Common.{◌≡◌}
+use Rattle.g_arena_use.specs.Lists.{uses_of, all_renamed, moved}
+use Rattle.g_arena_use.proofs.use_lists.UseLists.move_all.Given as goal
+
+abbrev pub invariant-loop-self : goal.invariant-loop-self
+invariant-loop-self l =
+    (l.self.names ≡ l.fn.self.names) × (all_renamed l.used.home (moved l.used.of l.to) l.self.lists ≡ all_renamed l.used.home (moved l.used.of l.to) l.fn.self.lists)
+
+abbrev pub decreases-loop-self : goal.decreases-loop-self
+decreases-loop-self l = uses_of l.used l.self.lists
