@@ -1,1 +1,1 @@
-mod NameLemmas
+mod SeenLemmas

@@ -1,41 +1,43 @@
--- What contracts see of an arena, and how it is indexed.
-use Rattle.std.specs.Prelude.{◌≡◌, ◌≢◌, ℕ, ◌<◌, ◌≤◌, IsSome, Bool, true, List, map, length, slice_get}
+-- How an arena is indexed: the inputs of each node and the results of each region are a list with its place, and each
+-- use that can be has a name.
+use Rattle.std.specs.Prelude.{◌≡◌, ℕ, ◌+◌, ◌^◌, ◌<◌, List, [], ◌∷◌, map, length, slice_get}
 use Rattle.std.specs.declared.option.Option.{Option}
 use Rattle.std.specs.declared.option.Option.TheVariants.{Some, None}
-use Rattle.cell_lists.specs.Lists.{list_at}
-use Rattle.g_arena_def.specs.Flat.{Flat}
-use Rattle.g_arena_def.specs.Reads.{kind_in}
+use Rattle.g_graph.specs.declared.op.Kind.{Kind}
+use Rattle.g_graph.specs.declared.op.Origin.TheVariants.{Arg, Out}
+use Rattle.g_arena_def.specs.declared.place.Place.{Place}
+use Rattle.g_arena_def.specs.Flat.{body_place, place_in}
+use Rattle.g_arena_use.specs.declared.use_index.Use.{Use}
+use Rattle.g_arena_use.specs.UseCells.{IsNamed}
+use Rattle.g_arena_use.specs.Lists.{PlainList, use_in, origins_at}
 use Rattle.g_arena.specs.declared.arena.Arena.TheInside.{Inside}
-use Rattle.g_arena.specs.declared.use_index.Use.{Use}
-use Rattle.g_arena.specs.UseCells.{IsNamed}
-use Rattle.g_arena.specs.Plain.{PlainPart, PlainSlot, part_seen, nodes_seen, live_from}
-use Rattle.g_arena.specs.Cells.{cells_of, IsLaidOut, owners_from}
+use Rattle.g_arena.specs.Plain.{PlainSlot, slot_at, is_live}
 
-abbrev pub arena_seen : Inside → Flat
-arena_seen a = record {
-  number = a.number;
-  params = a.params;
-  objects = a.objects.items;
-  next = a.next;
-  body = part_seen a.body;
-  nodes = nodes_seen a.slots.items;
-}
+abbrev pub homes_of : List PlainList → List Place
+homes_of ls = map (λ (l : PlainList). l.home) ls
 
--- The slots of the nodes in regions of a node are those behind its own, up to its end.
-pub record AreNested (ss : List PlainSlot) : Type 0 where
-  pub begins : (k : ℕ) (s : PlainSlot) → slice_get ss k ≡ Some s → k < s.end
-  pub ends : (k : ℕ) (s : PlainSlot) → slice_get ss k ≡ Some s → s.end ≤ length ss
-  pub within : (j k n : ℕ) (s t : PlainSlot) → slice_get ss j ≡ Some s → slice_get ss k ≡ Some t → t.home.node ≡ Some n → s.id ≡ n → (j < k) × (k < s.end) × (t.end ≤ s.end)
-  pub between : (j k : ℕ) (s t : PlainSlot) → slice_get ss j ≡ Some s → slice_get ss k ≡ Some t → j < k → k < s.end
-      → (i : ℕ) × (r : PlainSlot) × (slice_get ss i ≡ Some r) × (t.home.node ≡ Some r.id) × (j ≤ i) × (i < k)
+-- each origin that a node or the arguments of its regions give is named
+pub record IsNamedSlot (names : List Use) (s : PlainSlot) : Type 0 where
+  pub outputs : (q : ℕ) → q < length s.outputs → IsNamed (use_in s.home (Out s.id q)) names
+  pub args : (k q : ℕ) (ks : List Kind) → slice_get s.regions k ≡ Some ks → q < length ks → IsNamed (use_in (place_in s.id k) (Arg q)) names
+
+pub record IsNamedAll (names : List Use) (args : List Kind) (ss : List PlainSlot) : Type 0 where
+  pub body : (q : ℕ) → q < length args → IsNamed (use_in body_place (Arg q)) names
+  pub slots : (k : ℕ) (s : PlainSlot) → slice_get ss k ≡ Some s → IsNamedSlot names s
+
+-- so many of each list that 32 bits count them
+pub record IsShort (s : PlainSlot) : Type 0 where
+  pub outputs : length s.outputs < 2 ^ 32
+  pub regions : length s.regions < 2 ^ 32
+  pub args : (k : ℕ) (ks : List Kind) → slice_get s.regions k ≡ Some ks → length ks < 2 ^ 32
 
 pub record IsIndexed (a : Inside) : Type 0 where
-  pub numbers : a.numbers.keys ≡ map (λ (s : PlainSlot). s.id) a.slots.items
-  pub distinct : (j k : ℕ) (s t : PlainSlot) → slice_get a.slots.items j ≡ Some s → slice_get a.slots.items k ≡ Some t → s.id ≡ t.id → j ≡ k
-  pub lists : length a.order.lists ≡ 1
-  pub order : list_at a.order 0 ≡ live_from 0 a.slots.items
-  pub laid : IsLaidOut a.slots.items a.body
-  pub owners : a.owners.items ≡ owners_from 0 a.slots.items
-  pub uses : a.uses.cells ≡ cells_of a.slots.items a.body
-  pub named : (u : Use) → IsSome (kind_in u.home u.of (arena_seen a)) → IsNamed u a.uses.names
-  pub nested : AreNested a.slots.items
+  pub inputs : homes_of a.inputs.lists ≡ map (λ (s : PlainSlot). s.home) a.nodes
+  pub left : (k r : ℕ) → (slot_at a.nodes k).gone ≡ Some r → origins_at a.inputs.lists k ≡ []
+  pub apart : (j k : ℕ) (p : Place) → slice_get (homes_of a.results.lists) j ≡ Some p → slice_get (homes_of a.results.lists) k ≡ Some p → j ≡ k
+  pub body : slice_get (homes_of a.results.lists) 0 ≡ Some body_place
+  pub results : (j k : ℕ) (s : PlainSlot) → slice_get a.nodes j ≡ Some s → k < length s.regions → slice_get (homes_of a.results.lists) (s.results + k) ≡ Some (place_in s.id k)
+  pub named_inputs : IsNamedAll a.inputs.names a.args a.nodes
+  pub named_results : IsNamedAll a.results.names a.args a.nodes
+  pub short : length a.args < 2 ^ 32
+  pub shorts : (k : ℕ) (s : PlainSlot) → slice_get a.nodes k ≡ Some s → IsShort s

@@ -1,7 +1,4 @@
 pub mod Plain
-pub mod UseCells
-pub mod Named
-pub mod Cells
+pub mod Numbered
+pub mod Seen
 pub mod Indexed
-pub mod Kept
-pub mod KeptKeys

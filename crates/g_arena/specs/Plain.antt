@@ -1,48 +1,45 @@
--- What is stored of regions and nodes as plain records, and the list of nodes that they are.
-use Rattle.std.specs.Prelude.{ℕ, suc, Bool, if◌then◌else◌, List, [], ◌∷◌, map}
+-- What is stored of nodes, as plain records, and how they are found.
+use Rattle.std.specs.Prelude.{◌≡◌, ℕ, suc, ◌==◌, Bool, true, false, if◌then◌else◌, is_none, option_map, List, [], ◌∷◌, map, slice_set, slice_index_or}
+use Rattle.std.specs.declared.option.Option.{Option}
+use Rattle.std.specs.declared.option.Option.TheVariants.{Some, None}
 use Rattle.g_graph.specs.declared.op.Kind.{Kind}
 use Rattle.g_graph.specs.declared.op.Op.{Op}
-use Rattle.g_graph.specs.declared.op.Origin.{Origin}
+use Rattle.g_graph.specs.declared.op.Op.TheVariants.{Undef}
 use Rattle.g_arena_def.specs.declared.place.Place.{Place}
-use Rattle.g_arena_def.specs.Flat.{FlatRegion, FlatNode}
+use Rattle.g_arena_def.specs.Flat.{body_place}
 
-pub record PlainPart : Type 0 where
-  pub args : List Kind
-  pub results : List Origin
-  pub cell : ℕ
-  pub room : ℕ
-
+-- a node, the arguments of its regions, the number of the results of the first of them, and the node that it went with
 pub record PlainSlot : Type 0 where
   pub id : ℕ
   pub op : Op
-  pub inputs : List Origin
   pub outputs : List Kind
-  pub parts : List PlainPart
+  pub regions : List (List Kind)
+  pub results : ℕ
   pub home : Place
-  pub live : Bool
-  pub cell : ℕ
-  pub room : ℕ
-  pub end : ℕ
+  pub gone : Option ℕ
 
-abbrev pub part_seen : PlainPart → FlatRegion
-part_seen r = record { args = r.args; results = r.results }
+abbrev pub is_live : PlainSlot → Bool
+is_live s = is_none s.gone
 
-abbrev pub slot_seen : PlainSlot → FlatNode
-slot_seen s = record {
-  id = s.id;
-  op = s.op;
-  inputs = s.inputs;
-  outputs = s.outputs;
-  regions = map part_seen s.parts;
-  home = s.home;
-}
+abbrev pub no_slot : PlainSlot
+no_slot = record { id = 0; op = Undef; outputs = []; regions = []; results = 0; home = body_place; gone = None }
 
--- the nodes that are there
-abbrev pub nodes_seen : List PlainSlot → List FlatNode
-nodes_seen [] = []
-nodes_seen (s ∷ ss) = if s.live then slot_seen s ∷ nodes_seen ss else nodes_seen ss
+abbrev pub slot_at : List PlainSlot → ℕ → PlainSlot
+slot_at ss k = slice_index_or ss k no_slot
 
--- and the indexes of their slots, counted from a first one
+abbrev pub numbers_of : List PlainSlot → List ℕ
+numbers_of ss = map (λ (s : PlainSlot). s.id) ss
+
+-- the indexes of the nodes that are there, counted from a first one
 abbrev pub live_from : ℕ → List PlainSlot → List ℕ
 live_from k [] = []
-live_from k (s ∷ ss) = if s.live then k ∷ live_from (suc k) ss else live_from (suc k) ss
+live_from k (s ∷ ss) = if is_live s then k ∷ live_from (suc k) ss else live_from (suc k) ss
+
+-- the index of the node of a number, if it is there
+abbrev pub live_slot : ℕ → List PlainSlot → Option ℕ
+live_slot n [] = None
+live_slot n (s ∷ ss) = if s.id == n then (if is_live s then Some 0 else None) else option_map suc (live_slot n ss)
+
+-- a node goes with another
+abbrev pub slot_gone : (with_ : ℕ) → PlainSlot → PlainSlot
+slot_gone r s = record s { gone = Some r }

@@ -30,14 +30,10 @@ ghost use Rattle.g_arena_def.specs.Edits.{
   result_removed,
 };
 
-use crate::parts;
-use crate::slots::{Part, Slot};
-use crate::use_index::{Use, UseIndex};
-use cell_lists::CellLists;
+use crate::nodes::{Kinds, Nodes};
 use g_arena_def::Place;
-use g_graph::{Kind, Lambda, Object, Op, Origin};
-use indexmap::IndexSet;
-use no_memory::NoMemory;
+use g_arena_use::{Use, UseLists};
+use g_graph::{Kind, Object, Op, Origin};
 use std::alloc::Global;
 use std::marker::Model;
 use std::sync::ledger::Ledger;
@@ -52,15 +48,13 @@ pub struct Arena {
     pub(crate) params: u32,
     pub(crate) objects: Vec<Object>,
     pub(crate) next: u32,
-    pub(crate) body: Part,
-    pub(crate) slots: Vec<Slot>,
-    // The numbers of the nodes of the slots.
-    pub(crate) numbers: IndexSet<u32>,
-    // One list, of the slots of the nodes that are there.
-    pub(crate) order: CellLists,
-    // The slot of each cell of an input.
-    pub(crate) owners: Vec<usize>,
-    pub(crate) uses: UseIndex,
+    // The arguments of the body.
+    pub(crate) args: Kinds,
+    pub(crate) nodes: Nodes,
+    // The inputs of the node of each slot.
+    pub(crate) inputs: UseLists,
+    // The results of the body, and then of the regions of the nodes.
+    pub(crate) results: UseLists,
 }
 
 impl Model for Arena {
@@ -68,7 +62,8 @@ impl Model for Arena {
 
     ghost Value = { Flat };
 
-    ghost use Rattle.g_arena.specs.Indexed.{arena_seen, IsIndexed};
+    ghost use Rattle.g_arena.specs.Seen.{arena_seen};
+    ghost use Rattle.g_arena.specs.Indexed.{IsIndexed};
 
     ghost view = { λ a. arena_seen a };
 
@@ -102,9 +97,9 @@ impl Arena {
         ensures looks { looks.new ≡ looks.old + 1 }
     {
         looks.add(1);
-        let first = self.order.first(0)?;
-        let last = self.order.last(0)?;
-        Some((self.slots[first].id, self.slots[last].id))
+        let first = self.nodes.first()?;
+        let last = self.nodes.last()?;
+        Some((self.nodes.slot(first).id, self.nodes.slot(last).id))
     }
 
     /// What is told of the node of a number, or None where there is no such node.
@@ -121,16 +116,18 @@ impl Arena {
         ensures looks { looks.new ≡ looks.old + 1 }
     {
         looks.add(1);
-        let at = self.slot_of(node)?;
-        let slot = &self.slots[at];
+        let at = self.nodes.slot_of(node)?;
+        let before = self.number_of(self.nodes.before(at));
+        let after = self.number_of(self.nodes.after(at));
+        let slot = self.nodes.slot(at);
         Some(NodeView {
             op: slot.op,
-            inputs: slot.inputs.as_slice(),
-            outputs: parts::short(slot.outputs.len()),
-            regions: parts::short(slot.parts.len()),
+            inputs: self.inputs.list(at),
+            outputs: slot.outputs.count(),
+            regions: slot.region_count(),
             home: slot.home,
-            before: self.number_of(self.order.before(at)),
-            after: self.number_of(self.order.after(at)),
+            before,
+            after,
         })
     }
 
@@ -141,8 +138,8 @@ impl Arena {
         ensures looks { looks.new ≡ looks.old + 1 }
     {
         looks.add(1);
-        match self.part_at(home) {
-            Some(part) => part.results[index as usize],
+        match self.list_of(home) {
+            Some(list) => self.results.list(list)[index as usize],
             None => unreachable!(),
         }
     }
@@ -156,7 +153,8 @@ impl Arena {
         ensures looks { looks.new ≡ looks.old + 1 }
     {
         looks.add(1);
-        let count = self.uses.count(Use { home, of }) as u64;
+        let used = Use { home, of };
+        let count = self.inputs.count(used) as u64 + self.results.count(used) as u64;
         match self.kind_of(home, of) {
             Some(kind) => Uses { kind, count },
             None => unreachable!(),
@@ -179,7 +177,12 @@ impl Arena {
         ensures looks { looks.new ≡ looks.old + 1 }
     {
         looks.add(1);
-        self.move_first(home, from, to);
+        let used = Use { home, of: from };
+        if self.inputs.count(used) > 0 {
+            self.inputs.move_first(used, to);
+        } else {
+            self.results.move_first(used, to);
+        }
     }
 
     /// A node goes with its regions. It is to be there, and its outputs are to have no use.
@@ -189,13 +192,10 @@ impl Arena {
         ensures looks { looks.new ≡ looks.old + 1 }
     {
         looks.add(1);
-        let Some(at) = self.slot_of(node) else {
+        let Some(root) = self.nodes.slot_of(node) else {
             return;
         };
-        let end = self.slots[at].end;
-        for k in at..end {
-            self.let_go(k);
-        }
+        go_with(&mut self.nodes, &mut self.inputs, &mut self.results, root);
     }
 
     /// An input of a node goes, which is to be there.
@@ -205,14 +205,10 @@ impl Arena {
         ensures looks { looks.new ≡ looks.old + 1 }
     {
         looks.add(1);
-        let Some(at) = self.slot_of(node) else {
+        let Some(at) = self.nodes.slot_of(node) else {
             return;
         };
-        let slot = &mut self.slots[at];
-        let cell = slot.cell + index as usize;
-        let end = slot.cell + slot.inputs.len();
-        slot.inputs.remove(index as usize);
-        self.close_cell(cell, end);
+        self.inputs.remove(at, index as usize);
     }
 
     /// An output of a node goes. It is to be there, and to have no use.
@@ -222,19 +218,14 @@ impl Arena {
         ensures looks { looks.new ≡ looks.old + 1 }
     {
         looks.add(1);
-        let Some(at) = self.slot_of(node) else {
+        let Some(at) = self.nodes.slot_of(node) else {
             return;
         };
-        let home = self.slots[at].home;
-        let count = parts::short(self.slots[at].outputs.len());
-        for later in port + 1..count {
-            let to = Origin::Out {
-                node,
-                port: later - 1,
-            };
-            self.move_all(home, Origin::Out { node, port: later }, to);
-        }
-        self.slots[at].outputs.remove(port as usize);
+        let home = self.nodes.slot(at).home;
+        let count = self.nodes.slot(at).outputs.count();
+        self.inputs.follow_output(home, node, port, count);
+        self.results.follow_output(home, node, port, count);
+        self.nodes.remove_output(at, port as usize);
     }
 
     /// An argument of the region at a place goes. It is to be there, and to have no use.
@@ -245,13 +236,12 @@ impl Arena {
         ensures looks { looks.new ≡ looks.old + 1 }
     {
         looks.add(1);
-        let count = match self.part_at(home) {
-            Some(part) => parts::short(part.args.len()),
+        let count = match self.args_at(home) {
+            Some(args) => args.count(),
             None => return,
         };
-        for later in index + 1..count {
-            self.move_all(home, Origin::Arg(later), Origin::Arg(later - 1));
-        }
+        self.inputs.follow_argument(home, index, count);
+        self.results.follow_argument(home, index, count);
         self.drop_argument(home, index as usize);
     }
 
@@ -262,41 +252,50 @@ impl Arena {
         ensures looks { looks.new ≡ looks.old + 1 }
     {
         looks.add(1);
-        let (cell, end) = match self.part_at(home) {
-            Some(part) => (part.cell + index as usize, part.cell + part.results.len()),
-            None => return,
+        let Some(list) = self.list_of(home) else {
+            return;
         };
-        self.drop_result(home, index as usize);
-        self.close_cell(cell, end);
-    }
-
-    // The slot of the node of a number, if there is such a node.
-    fn slot_of(&self, node: u32) -> Option<usize> {
-        let at = self.numbers.get_index_of(&node)?;
-        if self.slots[at].live { Some(at) } else { None }
+        self.results.remove(list, index as usize);
     }
 
     // The number of the node of a slot.
     fn number_of(&self, slot: Option<usize>) -> Option<u32> {
         match slot {
-            Some(at) => Some(self.slots[at].id),
+            Some(at) => Some(self.nodes.slot(at).id),
             None => None,
         }
     }
 
-    // The region at a place.
-    fn part_at(&self, home: Place) -> Option<&Part> {
+    // The list of the results of the region at a place.
+    fn list_of(&self, home: Place) -> Option<usize> {
         match home.node {
             None => {
                 if home.region == 0 {
-                    Some(&self.body)
+                    Some(0)
                 } else {
                     None
                 }
             }
             Some(node) => {
-                let at = self.slot_of(node)?;
-                self.slots[at].parts.get(home.region as usize)
+                let at = self.nodes.slot_of(node)?;
+                self.nodes.slot(at).list_of(home.region as usize)
+            }
+        }
+    }
+
+    // The arguments of the region at a place.
+    fn args_at(&self, home: Place) -> Option<&Kinds> {
+        match home.node {
+            None => {
+                if home.region == 0 {
+                    Some(&self.args)
+                } else {
+                    None
+                }
+            }
+            Some(node) => {
+                let at = self.nodes.slot_of(node)?;
+                self.nodes.slot(at).regions.get(home.region as usize)
             }
         }
     }
@@ -304,62 +303,19 @@ impl Arena {
     // The kind of an origin in the region at a place.
     fn kind_of(&self, home: Place, of: Origin) -> Option<Kind> {
         match of {
-            Origin::Arg(index) => self.part_at(home)?.args.get(index as usize).copied(),
+            Origin::Arg(index) => self.args_at(home)?.list.get(index as usize).copied(),
             Origin::Out { node, port } => self.output_kind(home, node, port),
         }
     }
 
     // The kind of an output of a node, where it stands in the region at a place.
     fn output_kind(&self, home: Place, node: u32, port: u32) -> Option<Kind> {
-        let at = self.slot_of(node)?;
-        let slot = &self.slots[at];
+        let at = self.nodes.slot_of(node)?;
+        let slot = self.nodes.slot(at);
         if slot.home == home {
-            slot.outputs.get(port as usize).copied()
+            slot.outputs.list.get(port as usize).copied()
         } else {
             None
-        }
-    }
-
-    // The first use of `from` becomes one of `to`.
-    fn move_first(&mut self, home: Place, from: Origin, to: Origin) {
-        let Some(cell) = self.uses.first(Use { home, of: from }) else {
-            return;
-        };
-        self.set_origin(home, cell, to);
-        self.uses.set(cell, Use { home, of: to });
-    }
-
-    // Each use of `from` becomes one of `to`.
-    fn move_all(&mut self, home: Place, from: Origin, to: Origin) {
-        while self.uses.count(Use { home, of: from }) > 0 {
-            self.move_first(home, from, to);
-        }
-    }
-
-    // The origin of the input, or of the result of the region at a place, that has this cell.
-    fn set_origin(&mut self, home: Place, cell: usize, to: Origin) {
-        if cell < self.owners.len() {
-            let slot = &mut self.slots[self.owners[cell]];
-            let at = cell - slot.cell;
-            slot.inputs.as_mut_slice()[at] = to;
-            return;
-        }
-        match home.node {
-            None => parts::set_result(&mut self.body, cell, to),
-            Some(node) => {
-                if let Some(at) = self.slot_of(node) {
-                    let slot = &mut self.slots[at];
-                    parts::set_result(&mut slot.parts[home.region as usize], cell, to);
-                }
-            }
-        }
-    }
-
-    // A cell is given up, and later cells before `end` move on by one.
-    fn close_cell(&mut self, cell: usize, end: usize) {
-        self.uses.clear(cell);
-        for from in cell + 1..end {
-            self.uses.move_use(from, from - 1);
         }
     }
 
@@ -367,49 +323,34 @@ impl Arena {
     fn drop_argument(&mut self, home: Place, index: usize) {
         match home.node {
             None => {
-                self.body.args.remove(index);
+                self.args.list.remove(index);
             }
             Some(node) => {
-                if let Some(at) = self.slot_of(node) {
-                    let slot = &mut self.slots[at];
-                    slot.parts[home.region as usize].args.remove(index);
+                if let Some(at) = self.nodes.slot_of(node) {
+                    self.nodes.remove_argument(at, home.region as usize, index);
                 }
             }
         }
     }
+}
 
-    // A result of the region at a place goes.
-    fn drop_result(&mut self, home: Place, index: usize) {
-        match home.node {
-            None => {
-                self.body.results.remove(index);
-            }
-            Some(node) => {
-                if let Some(at) = self.slot_of(node) {
-                    let slot = &mut self.slots[at];
-                    slot.parts[home.region as usize].results.remove(index);
-                }
-            }
-        }
-    }
-
-    // The node of a slot goes, if it is there, with what it and its regions use.
-    fn let_go(&mut self, at: usize) {
-        let slot = &mut self.slots[at];
-        if !slot.live {
+// A node goes, and those behind it that are in regions of nodes that go, with all that they use.
+fn go_with(nodes: &mut Nodes, inputs: &mut UseLists, results: &mut UseLists, root: usize) {
+    let mut next = Some(root);
+    while let Some(at) = next {
+        if at != root && !nodes.went_with(root, at) {
             return;
         }
-        slot.live = false;
-        for cell in slot.cell..slot.cell + slot.inputs.len() {
-            self.uses.clear(cell);
-        }
-        slot.inputs.clear();
-        for part in slot.parts.iter_mut() {
-            for cell in part.cell..part.cell + part.results.len() {
-                self.uses.clear(cell);
-            }
-            part.results.clear();
-        }
-        self.order.remove(at);
+        next = nodes.after(at);
+        nodes.let_go(at, root);
+        inputs.clear(at);
+        clear_lists(results, nodes.slot(at).results, nodes.slot(at).regions.len());
+    }
+}
+
+// So many lists from one on lose their origins.
+fn clear_lists(lists: &mut UseLists, first: usize, count: usize) {
+    for k in 0..count {
+        lists.clear(first + k);
     }
 }

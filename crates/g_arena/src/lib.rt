@@ -6,14 +6,11 @@
 #![tactic(auto)]
 
 mod arena;
-mod keys;
 mod making;
-mod parts;
-mod slots;
-mod use_index;
+mod nodes;
 
 pub use arena::{Arena, NodeView, Uses};
-pub use keys::Keys;
+pub use g_arena_keys::Keys;
 
 #[cfg(test)]
 mod tests;

@@ -7,13 +7,14 @@ ghost use Rattle.g_arena_def.specs.Flat.{StandsFor};
 ghost use Rattle.g_arena_def.specs.Size.{lambda_size};
 
 use crate::Arena;
-use crate::slots::{Part, Slot};
-use crate::use_index::{Use, UseIndex, UseNames};
-use cell_lists::CellLists;
+use crate::nodes::{Kinds, Nodes, Slot};
 use g_arena_def::Place;
-use g_graph::{Kind, Lambda, Node, Op, Origin, Region, op_outputs};
+use g_arena_nodes::{Row, RowRegion, Rows, region_of, rows_of};
+use g_arena_use::{OriginList, Use, UseLists, UseNames};
+use g_graph::{Kind, Lambda, Origin};
 use indexmap::IndexSet;
 use no_memory::NoMemory;
+use smallvec::SmallVec;
 use std::alloc::Global;
 use std::sync::ledger::Ledger;
 use steps::Steps;
@@ -39,41 +40,42 @@ impl Arena {
         ensures cost { OnOk result (looks.new ≡ looks.old + 2 * lambda_size lambda) }
         ensures looks { looks.new ≤ looks.old + 2 * lambda_size lambda }
     {
+        let Rows { body, nodes } = rows_of(alloc, &lambda.body, looks)?;
+        let RowRegion { args, results } = body;
+        let mut stored = Stored::new(alloc, results.as_slice())?;
+        for row in nodes {
+            stored.add(row)?;
+        }
+        let args = kinds_of(args)?;
+        let Stored {
+            slots,
+            numbers,
+            inputs,
+            results,
+            ..
+        } = stored;
+        let names = names_of(alloc, &args, &slots, &inputs)?;
+        let inputs = UseLists::new(alloc, names, inputs)?;
+        let names = names_of(alloc, &args, &slots, &results)?;
+        let results = UseLists::new(alloc, names, results)?;
+        let nodes = Nodes::new(alloc, slots, numbers)?;
         let Lambda {
             number,
             params,
             objects,
-            body,
             next,
-        } = lambda;
-        let mut nodes = Nodes {
-            alloc,
-            slots: Vec::new(alloc),
-            numbers: IndexSet::new(alloc),
-        };
-        let mut body = nodes.region(body, BODY, looks)?;
-        let Nodes {
-            mut slots,
-            numbers,
             ..
-        } = nodes;
-        let inputs = lay_inputs(&mut slots);
-        let cells = lay_results(&mut slots, &mut body, inputs);
-        let order = order_of(alloc, slots.len())?;
-        let owners = owners_of(alloc, &slots)?;
-        let uses = uses_of(alloc, &slots, &body, cells)?;
+        } = lambda;
         Ok(Arena {
             alloc,
             number,
             params,
             objects,
             next,
-            body,
-            slots,
-            numbers,
-            order,
-            owners,
-            uses,
+            args,
+            nodes,
+            inputs,
+            results,
         })
     }
 
@@ -92,14 +94,18 @@ impl Arena {
             params,
             objects,
             next,
-            body,
-            mut slots,
-            ..
+            args,
+            nodes,
+            inputs,
+            results,
         } = self;
-        slots.retain(|slot| slot.live);
-        slots.reverse();
-        let mut left = Left { alloc, slots };
-        let body = left.region(body, BODY, looks)?;
+        let rows = live_rows(alloc, &nodes, &inputs, &results)?;
+        let results = results.list(0).to_vec(alloc)?;
+        let body = RowRegion {
+            args: args.list,
+            results,
+        };
+        let body = region_of(alloc, Rows { body, nodes: rows }, looks)?;
         Ok(Lambda {
             number,
             params,
@@ -110,237 +116,132 @@ impl Arena {
     }
 }
 
-// Counts two looks for each of so many contents.
-fn look_twice<L: Ledger>(looks: &mut Steps<L>, count: usize)
-    ensures { looks.new ≡ looks.old + 2 * count }
-{
-    looks.add(count);
-    looks.add(count);
+// Kinds, of which 32 bits count as many as there are.
+fn kinds_of(list: Vec<Kind>) -> Result<Kinds, NoMemory> {
+    is_short(list.len())?;
+    Ok(Kinds { list })
 }
 
-// The slots of the nodes so far, in pre-order, and their numbers.
+// Whether 32 bits count so many.
+fn is_short(count: usize) -> Result<(), NoMemory> {
+    match u32::try_from(count) {
+        Ok(_) => Ok(()),
+        Err(_) => Err(NoMemory),
+    }
+}
+
+// What is stored of the nodes so far.
 #[derive(Drop)]
-struct Nodes {
+struct Stored {
     alloc: Global,
     slots: Vec<Slot>,
     numbers: IndexSet<u32>,
+    inputs: Vec<OriginList>,
+    results: Vec<OriginList>,
 }
 
-impl Nodes {
-    // The nodes of a region at a place get slots.
-    #[cycle(slots)]
-    fn region<L: Ledger>(
-        &mut self,
-        region: Region,
-        home: Place,
-        looks: &mut Steps<L>,
-    ) -> Result<Part, NoMemory> {
-        let Region {
-            args,
-            nodes,
-            results,
-        } = region;
-        look_twice(looks, 1);
-        look_twice(looks, args.len());
-        look_twice(looks, results.len());
-        for node in nodes {
-            self.node(node, home, looks)?;
-        }
-        let room = results.len();
-        Ok(Part {
-            args,
-            results,
-            cell: 0,
-            room,
+impl Stored {
+    // No nodes, and the results of the body.
+    fn new(alloc: Global, results: &[Origin]) -> Result<Stored, NoMemory> {
+        let origins = SmallVec::from_slice(alloc, results)?;
+        let body = OriginList {
+            home: BODY,
+            origins,
+        };
+        Ok(Stored {
+            alloc,
+            slots: Vec::new(alloc),
+            numbers: IndexSet::new(alloc),
+            inputs: Vec::new(alloc),
+            results: vec![in alloc; body]?,
         })
     }
 
-    // A node in the region at a place gets a slot, and then the nodes of its regions.
-    #[cycle(slots)]
-    fn node<L: Ledger>(
-        &mut self,
-        node: Node,
-        home: Place,
-        looks: &mut Steps<L>,
-    ) -> Result<(), NoMemory> {
-        let Node {
+    // One more node.
+    fn add(&mut self, row: Row) -> Result<(), NoMemory> {
+        let Row {
             id,
             op,
             inputs,
-            regions,
-        } = node;
-        look_twice(looks, 1);
-        look_twice(looks, inputs.len());
-        let at = self.slots.len();
-        let room = inputs.len();
-        self.numbers.insert(id)?;
-        self.slots.push(Slot {
-            id,
-            op,
-            inputs,
-            outputs: Vec::new(self.alloc),
-            parts: Vec::new(self.alloc),
+            outputs,
+            regions: parts,
             home,
-            live: true,
-            cell: 0,
-            room,
-            end: 0,
-        })?;
+        } = row;
+        is_short(parts.len())?;
+        let first = self.results.len();
+        let mut regions = Vec::new(self.alloc);
         let mut index = 0;
-        for region in regions {
+        for part in parts {
             let place = Place {
                 node: Some(id),
                 region: index,
             };
-            let part = self.region(region, place, looks)?;
-            self.slots[at].parts.push(part)?;
+            regions.push(self.add_region(place, part)?)?;
             index += 1;
         }
-        let outputs = self.outputs(at)?;
-        look_twice(looks, outputs.len());
-        let end = self.slots.len();
-        let slot = &mut self.slots[at];
-        slot.outputs = outputs;
-        slot.end = end;
+        self.numbers.insert(id)?;
+        self.inputs.push(OriginList {
+            home,
+            origins: inputs,
+        })?;
+        let outputs = kinds_of(outputs)?;
+        self.slots.push(Slot {
+            id,
+            op,
+            outputs,
+            regions,
+            results: first,
+            home,
+            gone: None,
+        })?;
         Ok(())
     }
 
-    // The kinds of the outputs of the node of a slot, once its regions have theirs.
-    fn outputs(&self, at: usize) -> Result<Vec<Kind>, NoMemory> {
-        let slot = &self.slots[at];
-        match slot.op {
-            Op::Gamma => match slot.parts.first() {
-                Some(part) => self.results(part),
-                None => Ok(Vec::new(self.alloc)),
-            },
-            Op::Theta => match slot.parts.first() {
-                Some(part) => Ok(part.args.as_slice().to_vec(self.alloc)?),
-                None => Ok(Vec::new(self.alloc)),
-            },
-            op => Ok(op_outputs(op).to_vec(self.alloc)?),
-        }
-    }
-
-    // The kinds of the results of a region.
-    fn results(&self, part: &Part) -> Result<Vec<Kind>, NoMemory> {
-        let mut kinds = Vec::new(self.alloc);
-        for result in &part.results {
-            if let Some(kind) = self.kind(part, *result) {
-                kinds.push(kind)?;
-            }
-        }
-        Ok(kinds)
-    }
-
-    // The kind of an origin in a region.
-    fn kind(&self, part: &Part, of: Origin) -> Option<Kind> {
-        match of {
-            Origin::Arg(index) => part.args.get(index as usize).copied(),
-            Origin::Out { node, port } => {
-                let at = self.numbers.get_index_of(&node)?;
-                self.slots.get(at)?.outputs.get(port as usize).copied()
-            }
-        }
+    // The results of the region at a place. The answer are its arguments.
+    fn add_region(&mut self, home: Place, part: RowRegion) -> Result<Kinds, NoMemory> {
+        let origins = SmallVec::from_vec(part.results);
+        self.results.push(OriginList { home, origins })?;
+        kinds_of(part.args)
     }
 }
 
-// The inputs get their cells, in pre-order. The answer is how many there are.
-fn lay_inputs(slots: &mut Vec<Slot>) -> usize {
-    let mut cell = 0;
-    for slot in slots.iter_mut() {
-        slot.cell = cell;
-        cell += slot.room;
-    }
-    cell
-}
-
-// The results get their cells behind those, the body's first. The answer is the number of cells.
-fn lay_results(slots: &mut Vec<Slot>, body: &mut Part, inputs: usize) -> usize {
-    body.cell = inputs;
-    let mut cell = inputs + body.room;
-    for slot in slots.iter_mut() {
-        for part in slot.parts.iter_mut() {
-            part.cell = cell;
-            cell += part.room;
-        }
-    }
-    cell
-}
-
-// All slots in one list, in order.
-fn order_of(alloc: Global, slots: usize) -> Result<CellLists, NoMemory> {
-    let mut order = CellLists::new(alloc, 1, slots)?;
-    for at in 0..slots {
-        order.push_last(0, at);
-    }
-    Ok(order)
-}
-
-// The slot of each cell of an input.
-fn owners_of(alloc: Global, slots: &[Slot]) -> Result<Vec<usize>, NoMemory> {
-    let mut owners = Vec::new(alloc);
-    for (at, slot) in slots.iter().enumerate() {
-        for _ in 0..slot.room {
-            owners.push(at)?;
-        }
-    }
-    Ok(owners)
-}
-
-// The index of the uses of the arguments and outputs that there are.
-fn uses_of(alloc: Global, slots: &[Slot], body: &Part, cells: usize) -> Result<UseIndex, NoMemory> {
+// The uses that there can be, and those that there are in these lists.
+fn names_of(
+    alloc: Global,
+    args: &Kinds,
+    slots: &[Slot],
+    lists: &[OriginList],
+) -> Result<UseNames, NoMemory> {
     let mut names = UseNames::new(alloc);
-    name_args(&mut names, body, BODY)?;
+    name_args(&mut names, args, BODY)?;
     for slot in slots {
         name_slot(&mut names, slot)?;
     }
-    let mut uses = UseIndex::new(alloc, names, cells)?;
-    for slot in slots {
-        for (k, of) in slot.inputs.as_slice().iter().enumerate() {
-            uses.set(
-                slot.cell + k,
-                Use {
-                    home: slot.home,
-                    of: *of,
-                },
-            );
+    for list in lists {
+        for of in list.origins.as_slice() {
+            names.add(Use {
+                home: list.home,
+                of: *of,
+            })?;
         }
     }
-    put_results(&mut uses, body, BODY);
-    for slot in slots {
-        let mut index = 0;
-        for part in &slot.parts {
-            put_results(
-                &mut uses,
-                part,
-                Place {
-                    node: Some(slot.id),
-                    region: index,
-                },
-            );
-            index += 1;
-        }
-    }
-    Ok(uses)
+    Ok(names)
 }
 
 // The uses of the arguments of the region at a place.
-fn name_args(names: &mut UseNames, part: &Part, home: Place) -> Result<(), NoMemory> {
-    let mut index = 0;
-    for _ in &part.args {
+fn name_args(names: &mut UseNames, args: &Kinds, home: Place) -> Result<(), NoMemory> {
+    for index in 0..args.count() {
         names.add(Use {
             home,
             of: Origin::Arg(index),
         })?;
-        index += 1;
     }
     Ok(())
 }
 
 // The uses of the outputs of the node of a slot, and of the arguments of its regions.
 fn name_slot(names: &mut UseNames, slot: &Slot) -> Result<(), NoMemory> {
-    let mut port = 0;
-    for _ in &slot.outputs {
+    for port in 0..slot.outputs.count() {
         let of = Origin::Out {
             node: slot.id,
             port,
@@ -349,98 +250,58 @@ fn name_slot(names: &mut UseNames, slot: &Slot) -> Result<(), NoMemory> {
             home: slot.home,
             of,
         })?;
-        port += 1;
     }
     let mut index = 0;
-    for part in &slot.parts {
+    for args in &slot.regions {
         let home = Place {
             node: Some(slot.id),
             region: index,
         };
-        name_args(names, part, home)?;
+        name_args(names, args, home)?;
         index += 1;
     }
     Ok(())
 }
 
-// The cells of the results of the region at a place come to hold their uses.
-fn put_results(uses: &mut UseIndex, part: &Part, home: Place) {
-    for (k, of) in part.results.iter().enumerate() {
-        uses.set(part.cell + k, Use { home, of: *of });
-    }
-}
-
-// The slots of the nodes that are left, the first in pre-order last.
-#[derive(Drop)]
-struct Left {
+// The nodes that are there.
+fn live_rows(
     alloc: Global,
-    slots: Vec<Slot>,
+    nodes: &Nodes,
+    inputs: &UseLists,
+    results: &UseLists,
+) -> Result<Vec<Row>, NoMemory> {
+    let mut rows = Vec::new(alloc);
+    for at in 0..inputs.len() {
+        let slot = nodes.slot(at);
+        if slot.gone.is_none() {
+            rows.push(row_of(alloc, slot, inputs.list(at), results)?)?;
+        }
+    }
+    Ok(rows)
 }
 
-impl Left {
-    // The region at a place, whose nodes are the first that are left.
-    #[cycle(trees)]
-    fn region<L: Ledger>(
-        &mut self,
-        part: Part,
-        home: Place,
-        looks: &mut Steps<L>,
-    ) -> Result<Region, NoMemory> {
-        let Part { args, results, .. } = part;
-        look_twice(looks, 1);
-        look_twice(looks, args.len());
-        look_twice(looks, results.len());
-        let mut nodes = Vec::new(self.alloc);
-        while let Some(slot) = self.next_in(home) {
-            let node = self.node(slot, looks)?;
-            nodes.push(node)?;
-        }
-        Ok(Region {
-            args,
-            nodes,
-            results,
-        })
+// A node that is stored.
+fn row_of(
+    alloc: Global,
+    slot: &Slot,
+    inputs: &[Origin],
+    results: &UseLists,
+) -> Result<Row, NoMemory> {
+    let mut regions = Vec::new(alloc);
+    let mut list = slot.results;
+    for args in &slot.regions {
+        regions.push(RowRegion {
+            args: args.list.as_slice().to_vec(alloc)?,
+            results: results.list(list).to_vec(alloc)?,
+        })?;
+        list += 1;
     }
-
-    // The first that is left, if it stands in the region at a place.
-    fn next_in(&mut self, home: Place) -> Option<Slot> {
-        let stands = match self.slots.last() {
-            Some(slot) => slot.home == home,
-            None => false,
-        };
-        if stands { self.slots.pop() } else { None }
-    }
-
-    // The node of a slot, the nodes of whose regions are the first that are left.
-    #[cycle(trees)]
-    fn node<L: Ledger>(&mut self, slot: Slot, looks: &mut Steps<L>) -> Result<Node, NoMemory> {
-        let Slot {
-            id,
-            op,
-            inputs,
-            outputs,
-            parts,
-            ..
-        } = slot;
-        look_twice(looks, 1);
-        look_twice(looks, inputs.len());
-        look_twice(looks, outputs.len());
-        let mut regions = Vec::new(self.alloc);
-        let mut index = 0;
-        for part in parts {
-            let home = Place {
-                node: Some(id),
-                region: index,
-            };
-            let region = self.region(part, home, looks)?;
-            regions.push(region)?;
-            index += 1;
-        }
-        Ok(Node {
-            id,
-            op,
-            inputs,
-            regions,
-        })
-    }
+    Ok(Row {
+        id: slot.id,
+        op: slot.op,
+        inputs: SmallVec::from_slice(alloc, inputs)?,
+        outputs: slot.outputs.list.as_slice().to_vec(alloc)?,
+        regions,
+        home: slot.home,
+    })
 }
