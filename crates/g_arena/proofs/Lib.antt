@@ -1,1 +1,4 @@
 mod SeenLemmas
+mod UseLemmas
+mod KindLemmas
+mod EditLemmas

@@ -117,8 +117,8 @@ impl Arena {
     {
         looks.add(1);
         let at = self.nodes.slot_of(node)?;
-        let before = self.number_of(self.nodes.before(at));
-        let after = self.number_of(self.nodes.after(at));
+        let before = self.nodes.number_of(self.nodes.before(at));
+        let after = self.nodes.number_of(self.nodes.after(at));
         let slot = self.nodes.slot(at);
         Some(NodeView {
             op: slot.op,
@@ -138,7 +138,7 @@ impl Arena {
         ensures looks { looks.new ≡ looks.old + 1 }
     {
         looks.add(1);
-        match self.list_of(home) {
+        match self.nodes.list_of(home) {
             Some(list) => self.results.list(list)[index as usize],
             None => unreachable!(),
         }
@@ -155,7 +155,7 @@ impl Arena {
         looks.add(1);
         let used = Use { home, of };
         let count = self.inputs.count(used) as u64 + self.results.count(used) as u64;
-        match self.kind_of(home, of) {
+        match self.nodes.kind_of(&self.args, home, of) {
             Some(kind) => Uses { kind, count },
             None => unreachable!(),
         }
@@ -236,13 +236,18 @@ impl Arena {
         ensures looks { looks.new ≡ looks.old + 1 }
     {
         looks.add(1);
-        let count = match self.args_at(home) {
+        let count = match self.nodes.args_of(&self.args, home) {
             Some(args) => args.count(),
             None => return,
         };
         self.inputs.follow_argument(home, index, count);
         self.results.follow_argument(home, index, count);
-        self.drop_argument(home, index as usize);
+        match home.node {
+            None => {
+                self.args.list.remove(index as usize);
+            }
+            Some(node) => self.nodes.remove_argument(node, home.region as usize, index as usize),
+        }
     }
 
     /// A result of the region at a place goes, which is to be there.
@@ -252,85 +257,10 @@ impl Arena {
         ensures looks { looks.new ≡ looks.old + 1 }
     {
         looks.add(1);
-        let Some(list) = self.list_of(home) else {
+        let Some(list) = self.nodes.list_of(home) else {
             return;
         };
         self.results.remove(list, index as usize);
-    }
-
-    // The number of the node of a slot.
-    fn number_of(&self, slot: Option<usize>) -> Option<u32> {
-        match slot {
-            Some(at) => Some(self.nodes.slot(at).id),
-            None => None,
-        }
-    }
-
-    // The list of the results of the region at a place.
-    fn list_of(&self, home: Place) -> Option<usize> {
-        match home.node {
-            None => {
-                if home.region == 0 {
-                    Some(0)
-                } else {
-                    None
-                }
-            }
-            Some(node) => {
-                let at = self.nodes.slot_of(node)?;
-                self.nodes.slot(at).list_of(home.region as usize)
-            }
-        }
-    }
-
-    // The arguments of the region at a place.
-    fn args_at(&self, home: Place) -> Option<&Kinds> {
-        match home.node {
-            None => {
-                if home.region == 0 {
-                    Some(&self.args)
-                } else {
-                    None
-                }
-            }
-            Some(node) => {
-                let at = self.nodes.slot_of(node)?;
-                self.nodes.slot(at).regions.get(home.region as usize)
-            }
-        }
-    }
-
-    // The kind of an origin in the region at a place.
-    fn kind_of(&self, home: Place, of: Origin) -> Option<Kind> {
-        match of {
-            Origin::Arg(index) => self.args_at(home)?.list.get(index as usize).copied(),
-            Origin::Out { node, port } => self.output_kind(home, node, port),
-        }
-    }
-
-    // The kind of an output of a node, where it stands in the region at a place.
-    fn output_kind(&self, home: Place, node: u32, port: u32) -> Option<Kind> {
-        let at = self.nodes.slot_of(node)?;
-        let slot = self.nodes.slot(at);
-        if slot.home == home {
-            slot.outputs.list.get(port as usize).copied()
-        } else {
-            None
-        }
-    }
-
-    // An argument of the region at a place goes.
-    fn drop_argument(&mut self, home: Place, index: usize) {
-        match home.node {
-            None => {
-                self.args.list.remove(index);
-            }
-            Some(node) => {
-                if let Some(at) = self.nodes.slot_of(node) {
-                    self.nodes.remove_argument(at, home.region as usize, index);
-                }
-            }
-        }
     }
 }
 

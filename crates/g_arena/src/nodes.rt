@@ -1,12 +1,13 @@
 //! The nodes that are stored, by number and in pre-order.
 
-ghost use Rattle.std.specs.Prelude.{◌≡◌, ◌<◌, ◌≤◌, ℕ, Some, None, length, slice_set};
+ghost use Rattle.std.specs.Prelude.{◌≡◌, ◌<◌, ◌^◌, None, [], length, slice_set, OnOk, IfOk, Some};
+ghost use Rattle.g_graph.specs.declared.op.Origin.TheVariants.{Out};
 ghost use Rattle.cell_lists.specs.Lists.{first_or, last_or, before_in, after_in};
-ghost use Rattle.g_arena.specs.Plain.{PlainSlot, is_live, live_from, live_slot, slot_at, slot_gone};
+ghost use Rattle.g_arena.specs.Plain.{live_from, live_slot, slot_at, slot_gone, number_in, results_number, kind_at, numbers_of};
 
 use cell_lists::CellLists;
 use g_arena_def::Place;
-use g_graph::{Kind, Op};
+use g_graph::{Kind, Op, Origin};
 use indexmap::IndexSet;
 use no_memory::NoMemory;
 use std::alloc::Global;
@@ -82,19 +83,27 @@ impl Model for Nodes {
 
 impl Kinds {
     /// How many there are, which 32 bits are to count.
-    pub fn count(&self) -> u32 {
+    pub fn count(&self) -> u32
+        requires { length self.now < 2 ^ 32 }
+        ensures { result ≡ length self.now }
+    {
         self.list.len() as u32
     }
 }
 
 impl Slot {
     /// How many regions there are, which 32 bits are to count.
-    pub fn region_count(&self) -> u32 {
+    pub fn region_count(&self) -> u32
+        requires { length self.now.regions < 2 ^ 32 }
+        ensures { result ≡ length self.now.regions }
+    {
         self.regions.len() as u32
     }
 
     /// The number of the results of a region, if it is there.
-    pub fn list_of(&self, region: usize) -> Option<usize> {
+    pub fn list_of(&self, region: usize) -> Option<usize>
+        ensures { result ≡ number_in self.now region }
+    {
         if region < self.regions.len() {
             Some(self.results + region)
         } else {
@@ -198,8 +207,77 @@ impl Nodes {
         self.slots[at].outputs.list.remove(port);
     }
 
-    /// An argument of a region of the node of a slot goes.
-    pub fn remove_argument(&mut self, at: usize, region: usize, index: usize) {
-        self.slots[at].regions[region].list.remove(index);
+    /// An argument of a region of the node of a number goes.
+    pub fn remove_argument(&mut self, node: u32, region: usize, index: usize) {
+        if let Some(at) = self.slot_of(node) {
+            self.slots[at].regions[region].list.remove(index);
+        }
+    }
+
+    /// The number of the node of a slot.
+    pub fn number_of(&self, slot: Option<usize>) -> Option<u32> {
+        match slot {
+            Some(at) => Some(self.slot(at).id),
+            None => None,
+        }
+    }
+
+    /// The number of the list of the results of the region at a place, if it is there.
+    pub fn list_of(&self, home: Place) -> Option<usize>
+        ensures { result ≡ results_number home.node home.region self.now }
+    {
+        match home.node {
+            None => {
+                if home.region == 0 {
+                    Some(0)
+                } else {
+                    None
+                }
+            }
+            Some(node) => {
+                let at = self.slot_of(node)?;
+                self.slot(at).list_of(home.region as usize)
+            }
+        }
+    }
+
+    /// The arguments of the region at a place, if it is there.
+    pub fn args_of<'a>(&'a self, body: &'a Kinds, home: Place) -> Option<&'a Kinds> {
+        match home.node {
+            None => {
+                if home.region == 0 {
+                    Some(body)
+                } else {
+                    None
+                }
+            }
+            Some(node) => {
+                let at = self.slot_of(node)?;
+                self.slot(at).regions.get(home.region as usize)
+            }
+        }
+    }
+
+    /// The kind of an origin in the region at a place, if it is there.
+    pub fn kind_of(&self, body: &Kinds, home: Place, of: Origin) -> Option<Kind>
+        ensures { result ≡ kind_at body.now home of self.now }
+    {
+        match of {
+            Origin::Arg(index) => self.args_of(body, home)?.list.get(index as usize).copied(),
+            Origin::Out { node, port } => self.output_kind(home, node, port),
+        }
+    }
+
+    // The kind of an output of a node, where it stands in the region at a place.
+    fn output_kind(&self, home: Place, node: u32, port: u32) -> Option<Kind>
+        ensures { result ≡ kind_at [] home (Out node port) self.now }
+    {
+        let at = self.slot_of(node)?;
+        let slot = self.slot(at);
+        if slot.home == home {
+            slot.outputs.list.get(port as usize).copied()
+        } else {
+            None
+        }
     }
 }

@@ -157,7 +157,7 @@ impl UseLists {
           lists = all_renamed used.home (moved used.of to) self.old.lists;
         } }
     {
-        while self.uses.count(used) > 0 {
+        while self.count(used) > 0 {
             self.move_first(used, to);
         }
     }
