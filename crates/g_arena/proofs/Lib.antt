@@ -2,3 +2,4 @@ mod SeenLemmas
 mod UseLemmas
 mod KindLemmas
 mod EditLemmas
+mod ResultLemmas

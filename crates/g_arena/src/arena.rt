@@ -152,11 +152,13 @@ impl Arena {
         ensures count { result.count ≡ uses_in home of self.now }
         ensures looks { looks.new ≡ looks.old + 1 }
     {
-        looks.add(1);
         let used = Use { home, of };
         let count = self.inputs.count(used) as u64 + self.results.count(used) as u64;
         match self.nodes.kind_of(&self.args, home, of) {
-            Some(kind) => Uses { kind, count },
+            Some(kind) => {
+                looks.add(1);
+                Uses { kind, count }
+            }
             None => unreachable!(),
         }
     }
