@@ -47,14 +47,11 @@ own_first p l ls o = ap (same_place p) (same_Some l.home p o.there) ∙ place_se
 
 none_renamed : (p : Place) (f : Origin → Origin) (ls : List PlainList) → ((k : ℕ) → slice_get (homes_of ls) k ≡ Some p → ⊥) → all_renamed p f ls ≡ ls
 none_renamed p f [] h = refl
-none_renamed p f (l ∷ ls) h = by (same_place p l.home) refl
+none_renamed p f (l ∷ ls) h = by (none_renamed p f ls (λ k e. h (suc k) e)) (same_place p l.home) refl
   where
-    rest : all_renamed p f ls ≡ ls
-    rest = none_renamed p f ls (λ k e. h (suc k) e)
-
-    by : (t : Bool) → same_place p l.home ≡ t → renamed_in p f l ∷ all_renamed p f ls ≡ l ∷ ls
-    by true e = absurd (h 0 (ap Some (sym (place_true p l.home e))))
-    by false e = let s = skips (same_place p l.home) (record l { origins = map f l.origins }) l e in λ i. s i ∷ rest i
+    by : all_renamed p f ls ≡ ls → (t : Bool) → same_place p l.home ≡ t → renamed_in p f l ∷ all_renamed p f ls ≡ l ∷ ls
+    by rest true e = absurd (h 0 (ap Some (sym (place_true p l.home e))))
+    by rest false e = let s = skips (same_place p l.home) (record l { origins = map f l.origins }) l e in λ i. s i ∷ rest i
 
 pub renamed_one : (p : Place) (f : Origin → Origin) (j : ℕ) (ls : List PlainList) → IsOnly p j ls → all_renamed p f ls ≡ at_with j (list_edited (map f)) ls
 renamed_one p f j [] o = absurd (apart p o.there)
@@ -75,11 +72,11 @@ first_none from to (x ∷ xs) h =
 
 none_moved : (u : Use) (to : Origin) (ls : List PlainList) → ((k : ℕ) → slice_get (homes_of ls) k ≡ Some u.home → ⊥) → use_moved u to ls ≡ ls
 none_moved u to [] h = refl
-none_moved u to (l ∷ ls) h = by (same_place u.home l.home) refl
+none_moved u to (l ∷ ls) h = by (none_moved u to ls (λ k f. h (suc k) f)) (same_place u.home l.home) refl
   where
-    by : (t : Bool) → same_place u.home l.home ≡ t → cond (t && some_of (same_origin u.of) l.origins) (record l { origins = first_with u.of to l.origins } ∷ ls) (l ∷ use_moved u to ls) ≡ l ∷ ls
-    by true e = absurd (h 0 (ap Some (sym (place_true u.home l.home e))))
-    by false e = ap (λ r. l ∷ r) (none_moved u to ls (λ k f. h (suc k) f))
+    by : use_moved u to ls ≡ ls → (t : Bool) → same_place u.home l.home ≡ t → cond (t && some_of (same_origin u.of) l.origins) (record l { origins = first_with u.of to l.origins } ∷ ls) (l ∷ use_moved u to ls) ≡ l ∷ ls
+    by rest true e = absurd (h 0 (ap Some (sym (place_true u.home l.home e))))
+    by rest false e = ap (λ r. l ∷ r) rest
 
 pub moved_one : (u : Use) (to : Origin) (j : ℕ) (ls : List PlainList) → IsOnly u.home j ls → use_moved u to ls ≡ at_with j (list_edited (first_with u.of to)) ls
 moved_one u to j [] o = absurd (apart u.home o.there)
@@ -156,7 +153,8 @@ pub results_inside : (g : List Origin → List Origin) (j n i r : ℕ) (xs ls : 
     → nodes_seen xs (at_with j (list_edited g) ls) ss ≡ node_with n (region_edited r g) (nodes_seen xs ls ss)
 results_inside g j n i r xs ls [] e d h q lt fits only = absurd (apart i h)
 results_inside g j n i r [] ls (s ∷ ss) e d h q lt fits only = absurd (omega (arith, e))
-results_inside g j n i r (x ∷ xs) ls (s ∷ ss) e d h q lt fits only = by_own (eqb s.id n) refl
+results_inside g j n i r (x ∷ xs) ls (s ∷ ss) e d h q lt fits only =
+    by_own (λ k f own few. results_inside g j n k r xs ls ss (omega (arith, e)) d.1 f own few fits (λ m p u w c y. only (suc m) p u w c y)) (eqb s.id n) refl
   where
     here_live : (t : Bool) → cond t (Some 0) None ≡ Some i → (t ≡ true) × (i ≡ 0)
     here_live true f = (refl, sym (same_Some 0 i f))
@@ -187,11 +185,8 @@ results_inside g j n i r (x ∷ xs) ls (s ∷ ss) e d h q lt fits only = by_own 
         ∙ sym (picks (eqb s.id n) (region_edited r g (slot_seen x.origins ls s) ∷ nodes_seen xs ls ss) (slot_seen x.origins ls s ∷ node_with n (region_edited r g) (nodes_seen xs ls ss)) b)
         ∙ ap (node_with n (region_edited r g)) (sym (picks (is_live s) (slot_seen x.origins ls s ∷ nodes_seen xs ls ss) (nodes_seen xs ls ss) l))
 
-    at_rest : (k : ℕ) → live_slot n ss ≡ Some k → i ≡ suc k → (eqb s.id n ≡ false) → nodes_seen (x ∷ xs) (at_with j (list_edited g) ls) (s ∷ ss) ≡ node_with n (region_edited r g) (nodes_seen (x ∷ xs) ls (s ∷ ss))
-    at_rest k f z b =
-        let own : (slot_at ss k).results + r ≡ j = ap (λ m. (slot_at (s ∷ ss) m).results + r) (sym z) ∙ q in
-        let few : r < length (slot_at ss k).regions = (let P : ℕ → Type 0 = λ m. r < length (slot_at (s ∷ ss) m).regions in subst P z lt) in
-        let t = results_inside g j n k r xs ls ss (omega (arith, e)) d.1 f own few fits (λ m p u w c y. only (suc m) p u w c y) in
+    at_rest : (k : ℕ) → nodes_seen xs (at_with j (list_edited g) ls) ss ≡ node_with n (region_edited r g) (nodes_seen xs ls ss) → (eqb s.id n ≡ false) → nodes_seen (x ∷ xs) (at_with j (list_edited g) ls) (s ∷ ss) ≡ node_with n (region_edited r g) (nodes_seen (x ∷ xs) ls (s ∷ ss))
+    at_rest k t b =
         let same = regions_same g j s.results s.regions ls (λ p c y. eqb-false s.id n b (only 0 p s refl c y)) in
         by_live t same (is_live s)
       where
@@ -203,10 +198,13 @@ results_inside g j n i r (x ∷ xs) ls (s ∷ ss) e d h q lt fits only = by_own 
             ∙ sym (skips (eqb s.id n) (region_edited r g (slot_seen x.origins ls s) ∷ nodes_seen xs ls ss) (slot_seen x.origins ls s ∷ node_with n (region_edited r g) (nodes_seen xs ls ss)) b)
         by_live t same false = t
 
-    by_own : (b : Bool) → eqb s.id n ≡ b → nodes_seen (x ∷ xs) (at_with j (list_edited g) ls) (s ∷ ss) ≡ node_with n (region_edited r g) (nodes_seen (x ∷ xs) ls (s ∷ ss))
-    by_own true b =
+    by_own : ((k : ℕ) → live_slot n ss ≡ Some k → (slot_at ss k).results + r ≡ j → r < length (slot_at ss k).regions → nodes_seen xs (at_with j (list_edited g) ls) ss ≡ node_with n (region_edited r g) (nodes_seen xs ls ss))
+        → (b : Bool) → eqb s.id n ≡ b → nodes_seen (x ∷ xs) (at_with j (list_edited g) ls) (s ∷ ss) ≡ node_with n (region_edited r g) (nodes_seen (x ∷ xs) ls (s ∷ ss))
+    by_own ih true b =
         let f = here_live (is_live s) (sym (picks (eqb s.id n) (cond (is_live s) (Some 0) None) (option_map suc (live_slot n ss)) b) ∙ h) in
         at_head b f.0 f.1
-    by_own false b =
+    by_own ih false b =
         let f = one_more (live_slot n ss) (sym (skips (eqb s.id n) (cond (is_live s) (Some 0) None) (option_map suc (live_slot n ss)) b) ∙ h) in
-        at_rest f.0 f.1 f.2 b
+        let own : (slot_at ss f.0).results + r ≡ j = ap (λ m. (slot_at (s ∷ ss) m).results + r) (sym f.2) ∙ q in
+        let few : r < length (slot_at ss f.0).regions = (let P : ℕ → Type 0 = λ m. r < length (slot_at (s ∷ ss) m).regions in subst P f.2 lt) in
+        at_rest f.0 (ih f.0 f.1 own few) b

@@ -27,7 +27,7 @@ seen_at xs ls ss k = slot_seen (origins_at xs k) ls (slot_at ss k)
 absent : (xs ls : List PlainList) (ss : List PlainSlot) (n : ℕ) → is_in n (numbers_of ss) ≡ false → found n (nodes_seen xs ls ss) ≡ None
 absent xs ls [] n h = refl
 absent [] ls (s ∷ ss) n h = refl
-absent (x ∷ xs) ls (s ∷ ss) n h = by_live (is_live s)
+absent (x ∷ xs) ls (s ∷ ss) n h = by_live (absent xs ls ss n (or_parts (eqb n s.id) (is_in n (numbers_of ss)) h).1) (is_live s)
   where
     p : (eqb n s.id ≡ false) × (is_in n (numbers_of ss) ≡ false)
     p = or_parts _ _ h
@@ -35,9 +35,9 @@ absent (x ∷ xs) ls (s ∷ ss) n h = by_live (is_live s)
     other : eqb s.id n ≡ false
     other = ne_eqb s.id n (λ e. eqb-false n s.id p.0 (sym e))
 
-    by_live : (t : Bool) → found n (cond t (slot_seen x.origins ls s ∷ nodes_seen xs ls ss) (nodes_seen xs ls ss)) ≡ None
-    by_live true = skips (eqb s.id n) (Some (slot_seen x.origins ls s)) (found n (nodes_seen xs ls ss)) other ∙ absent xs ls ss n p.1
-    by_live false = absent xs ls ss n p.1
+    by_live : found n (nodes_seen xs ls ss) ≡ None → (t : Bool) → found n (cond t (slot_seen x.origins ls s ∷ nodes_seen xs ls ss) (nodes_seen xs ls ss)) ≡ None
+    by_live r true = skips (eqb s.id n) (Some (slot_seen x.origins ls s)) (found n (nodes_seen xs ls ss)) other ∙ r
+    by_live r false = r
 
 absent_slot : (ss : List PlainSlot) (n : ℕ) → is_in n (numbers_of ss) ≡ false → live_slot n ss ≡ None
 absent_slot [] n h = refl
@@ -51,24 +51,21 @@ pub found_is : (xs ls : List PlainList) (ss : List PlainSlot) (n : ℕ) → leng
     → found n (nodes_seen xs ls ss) ≡ option_map (seen_at xs ls ss) (live_slot n ss)
 found_is xs ls [] n e d = refl
 found_is [] ls (s ∷ ss) n e d = absurd (omega (arith, e))
-found_is (x ∷ xs) ls (s ∷ ss) n e d = by_live (is_live s) refl (eqb s.id n) refl
+found_is (x ∷ xs) ls (s ∷ ss) n e d = by_live (found_is xs ls ss n (omega (arith, e)) d.1 ∙ shifted (live_slot n ss)) (is_live s) refl (eqb s.id n) refl
   where
     shifted : (o : Option ℕ) → option_map (seen_at xs ls ss) o ≡ option_map (seen_at (x ∷ xs) ls (s ∷ ss)) (option_map suc o)
     shifted None = refl
     shifted (Some k) = refl
 
-    rest : found n (nodes_seen xs ls ss) ≡ option_map (seen_at (x ∷ xs) ls (s ∷ ss)) (option_map suc (live_slot n ss))
-    rest = found_is xs ls ss n (omega (arith, e)) d.1 ∙ shifted (live_slot n ss)
-
     here : eqb s.id n ≡ true → is_in n (numbers_of ss) ≡ false
     here h = let P : ℕ → Type 0 = λ m. is_in m (numbers_of ss) ≡ false in subst P (eqb-true s.id n h) d.0
 
-    by_live : (t : Bool) → is_live s ≡ t → (b : Bool) → eqb s.id n ≡ b
+    by_live : found n (nodes_seen xs ls ss) ≡ option_map (seen_at (x ∷ xs) ls (s ∷ ss)) (option_map suc (live_slot n ss)) → (t : Bool) → is_live s ≡ t → (b : Bool) → eqb s.id n ≡ b
         → found n (cond t (slot_seen x.origins ls s ∷ nodes_seen xs ls ss) (nodes_seen xs ls ss)) ≡ option_map (seen_at (x ∷ xs) ls (s ∷ ss)) (cond b (cond t (Some 0) None) (option_map suc (live_slot n ss)))
-    by_live true l true h = picks (eqb s.id n) (Some (slot_seen x.origins ls s)) (found n (nodes_seen xs ls ss)) h
-    by_live true l false h = skips (eqb s.id n) (Some (slot_seen x.origins ls s)) (found n (nodes_seen xs ls ss)) h ∙ rest
-    by_live false l true h = absent xs ls ss n (here h)
-    by_live false l false h = rest
+    by_live rest true l true h = picks (eqb s.id n) (Some (slot_seen x.origins ls s)) (found n (nodes_seen xs ls ss)) h
+    by_live rest true l false h = skips (eqb s.id n) (Some (slot_seen x.origins ls s)) (found n (nodes_seen xs ls ss)) h ∙ rest
+    by_live rest false l true h = absent xs ls ss n (here h)
+    by_live rest false l false h = rest
 
 -- ---- the numbers of the nodes that are there, in order
 
@@ -89,17 +86,14 @@ ids_from : (all : List PlainSlot) (base : ℕ) (xs ls : List PlainList) (ss : Li
     → ids_seen (nodes_seen xs ls ss) ≡ map (id_at all) (live_from base ss)
 ids_from all base xs ls [] e f = refl
 ids_from all base [] ls (s ∷ ss) e f = absurd (omega (arith, e))
-ids_from all base (x ∷ xs) ls (s ∷ ss) e f = by_live (is_live s)
+ids_from all base (x ∷ xs) ls (s ∷ ss) e f = by_live (ids_from all (suc base) xs ls ss (omega (arith, e)) (stand_later all base s ss f)) (is_live s)
   where
-    rest : ids_seen (nodes_seen xs ls ss) ≡ map (id_at all) (live_from (suc base) ss)
-    rest = ids_from all (suc base) xs ls ss (omega (arith, e)) (stand_later all base s ss f)
-
     own : s.id ≡ id_at all base
     own = sym (ap (λ (r : PlainSlot). r.id) (ap (slot_at all) (let z : base ≡ base + 0 = omega arith in z) ∙ f.at 0))
 
-    by_live : (t : Bool) → ids_seen (cond t (slot_seen x.origins ls s ∷ nodes_seen xs ls ss) (nodes_seen xs ls ss)) ≡ map (id_at all) (cond t (base ∷ live_from (suc base) ss) (live_from (suc base) ss))
-    by_live true = λ i. own i ∷ rest i
-    by_live false = rest
+    by_live : ids_seen (nodes_seen xs ls ss) ≡ map (id_at all) (live_from (suc base) ss) → (t : Bool) → ids_seen (cond t (slot_seen x.origins ls s ∷ nodes_seen xs ls ss) (nodes_seen xs ls ss)) ≡ map (id_at all) (cond t (base ∷ live_from (suc base) ss) (live_from (suc base) ss))
+    by_live rest true = λ i. own i ∷ rest i
+    by_live rest false = rest
 
 pub ids_are : (xs ls : List PlainList) (ss : List PlainSlot) → length xs ≡ length ss → ids_seen (nodes_seen xs ls ss) ≡ map (id_at ss) (live_from 0 ss)
 ids_are xs ls ss e = ids_from ss 0 xs ls ss e (record { at = λ j. ap (slot_at ss) (let z : 0 + j ≡ j = omega arith in z) })
@@ -131,19 +125,19 @@ in_first k ks = ap (λ b. b || is_in k ks) (eq-eqb k k refl)
 
 pub after_of_map : (f : ℕ → ℕ) (c : ℕ) (ks : List ℕ) → AreApart f c ks → after_in (f c) (map f ks) ≡ option_map f (after_in c ks)
 after_of_map f c [] a = refl
-after_of_map f c (k ∷ ks) a = ap (λ b. cond b (first_or None (map f ks)) (after_in (f c) (map f ks))) (a k (in_first k ks)) ∙ by_test (eqb c k)
+after_of_map f c (k ∷ ks) a = ap (λ b. cond b (first_or None (map f ks)) (after_in (f c) (map f ks))) (a k (in_first k ks)) ∙ by_test (after_of_map f c ks (λ j h. a j (in_later j k ks h))) (eqb c k)
   where
-    by_test : (t : Bool) → cond t (first_or None (map f ks)) (after_in (f c) (map f ks)) ≡ option_map f (cond t (first_or None ks) (after_in c ks))
-    by_test true = first_of_map f ks
-    by_test false = after_of_map f c ks (λ j h. a j (in_later j k ks h))
+    by_test : after_in (f c) (map f ks) ≡ option_map f (after_in c ks) → (t : Bool) → cond t (first_or None (map f ks)) (after_in (f c) (map f ks)) ≡ option_map f (cond t (first_or None ks) (after_in c ks))
+    by_test r true = first_of_map f ks
+    by_test r false = r
 
 before_from : (f : ℕ → ℕ) (c : ℕ) (o : Option ℕ) (ks : List ℕ) → AreApart f c ks → before_in (option_map f o) (f c) (map f ks) ≡ option_map f (before_in o c ks)
 before_from f c o [] a = refl
-before_from f c o (k ∷ ks) a = ap (λ b. cond b (option_map f o) (before_in (Some (f k)) (f c) (map f ks))) (a k (in_first k ks)) ∙ by_test (eqb c k)
+before_from f c o (k ∷ ks) a = ap (λ b. cond b (option_map f o) (before_in (Some (f k)) (f c) (map f ks))) (a k (in_first k ks)) ∙ by_test (before_from f c (Some k) ks (λ j h. a j (in_later j k ks h))) (eqb c k)
   where
-    by_test : (t : Bool) → cond t (option_map f o) (before_in (Some (f k)) (f c) (map f ks)) ≡ option_map f (cond t o (before_in (Some k) c ks))
-    by_test true = refl
-    by_test false = before_from f c (Some k) ks (λ j h. a j (in_later j k ks h))
+    by_test : before_in (Some (f k)) (f c) (map f ks) ≡ option_map f (before_in (Some k) c ks) → (t : Bool) → cond t (option_map f o) (before_in (Some (f k)) (f c) (map f ks)) ≡ option_map f (cond t o (before_in (Some k) c ks))
+    by_test r true = refl
+    by_test r false = r
 
 pub before_of_map : (f : ℕ → ℕ) (c : ℕ) (ks : List ℕ) → AreApart f c ks → before_in None (f c) (map f ks) ≡ option_map f (before_in None c ks)
 before_of_map f c ks a = before_from f c None ks a
@@ -167,18 +161,15 @@ same_slot (s ∷ ss) (suc j) (suc k) d p q e = ap suc (same_slot ss j k d.1 (ome
 
 live_within : (base : ℕ) (ss : List PlainSlot) (k : ℕ) → is_in k (live_from base ss) ≡ true → (base ≤ k) × (k < base + length ss)
 live_within base [] k h = absurd (true≢false (sym h))
-live_within base (s ∷ ss) k h = by_live (is_live s) h
+live_within base (s ∷ ss) k h = by_live (λ g. let r = live_within (suc base) ss k g in (omega (arith, r.0), omega (arith, r.1))) (is_live s) h
   where
-    rest : is_in k (live_from (suc base) ss) ≡ true → (base ≤ k) × (k < base + suc (length ss))
-    rest h = let r = live_within (suc base) ss k h in (omega (arith, r.0), omega (arith, r.1))
+    by_head : (is_in k (live_from (suc base) ss) ≡ true → (base ≤ k) × (k < base + suc (length ss))) → (t : Bool) → eqb k base ≡ t → (t || is_in k (live_from (suc base) ss)) ≡ true → (base ≤ k) × (k < base + suc (length ss))
+    by_head rest true e g = let z : k ≡ base = eqb-true k base e in (omega (arith, z), omega (arith, z))
+    by_head rest false e g = rest g
 
-    by_head : (t : Bool) → eqb k base ≡ t → (t || is_in k (live_from (suc base) ss)) ≡ true → (base ≤ k) × (k < base + suc (length ss))
-    by_head true e g = let z : k ≡ base = eqb-true k base e in (omega (arith, z), omega (arith, z))
-    by_head false e g = rest g
-
-    by_live : (t : Bool) → is_in k (cond t (base ∷ live_from (suc base) ss) (live_from (suc base) ss)) ≡ true → (base ≤ k) × (k < base + suc (length ss))
-    by_live true g = by_head (eqb k base) refl g
-    by_live false g = rest g
+    by_live : (is_in k (live_from (suc base) ss) ≡ true → (base ≤ k) × (k < base + suc (length ss))) → (t : Bool) → is_in k (cond t (base ∷ live_from (suc base) ss) (live_from (suc base) ss)) ≡ true → (base ≤ k) × (k < base + suc (length ss))
+    by_live rest true g = by_head rest (eqb k base) refl g
+    by_live rest false g = rest g
 
 pub ids_apart : (ss : List PlainSlot) (c : ℕ) → AreDistinct (numbers_of ss) → c < length ss → AreApart (id_at ss) c (live_from 0 ss)
 ids_apart ss c d lt k h = by_test (eqb c k) refl
@@ -198,7 +189,7 @@ pub record IsSlotOf (n : ℕ) (ss : List PlainSlot) (k : ℕ) : Type 0 where
 
 pub slot_is : (n : ℕ) (ss : List PlainSlot) (k : ℕ) → live_slot n ss ≡ Some k → IsSlotOf n ss k
 slot_is n [] k h = absurd (apart k h)
-slot_is n (s ∷ ss) k h = by_own (eqb s.id n) refl k h
+slot_is n (s ∷ ss) k h = by_own (λ a p. slot_is n ss a p) (eqb s.id n) refl k h
   where
     none_live : (o : Option ℕ) → is_none o ≡ true → o ≡ None
     none_live None h = refl
@@ -214,10 +205,10 @@ slot_is n (s ∷ ss) k h = by_own (eqb s.id n) refl k h
         subst P (same_Some 0 k h) (record { inside = omega arith; own = eqb-true s.id n e; live = none_live s.gone l })
     by_live false l e k h = absurd (apart k h)
 
-    by_own : (t : Bool) → eqb s.id n ≡ t → (k : ℕ) → cond t (cond (is_live s) (Some 0) None) (option_map suc (live_slot n ss)) ≡ Some k → IsSlotOf n (s ∷ ss) k
-    by_own true e k h = by_live (is_live s) refl e k h
-    by_own false e k h =
+    by_own : ((a : ℕ) → live_slot n ss ≡ Some a → IsSlotOf n ss a) → (t : Bool) → eqb s.id n ≡ t → (k : ℕ) → cond t (cond (is_live s) (Some 0) None) (option_map suc (live_slot n ss)) ≡ Some k → IsSlotOf n (s ∷ ss) k
+    by_own ih true e k h = by_live (is_live s) refl e k h
+    by_own ih false e k h =
         let m = one_more (live_slot n ss) k h in
-        let r = slot_is n ss m.0 m.1 in
+        let r = ih m.0 m.1 in
         let P : ℕ → Type 0 = λ j. IsSlotOf n (s ∷ ss) j in
         subst P (sym m.2) (record { inside = omega (arith, r.inside); own = r.own; live = r.live })

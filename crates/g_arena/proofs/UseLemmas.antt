@@ -47,11 +47,8 @@ pub input_uses_are : (p : Place) (o : Origin) (xs ls : List PlainList) (ss : Lis
 input_uses_are p o [] ls [] a = refl
 input_uses_are p o (x ∷ xs) ls [] a = absurd (nil_cons _ _ (sym a.homes))
 input_uses_are p o [] ls (s ∷ ss) a = absurd (nil_cons _ _ a.homes)
-input_uses_are p o (x ∷ xs) ls (s ∷ ss) a = by_gone s.gone refl
+input_uses_are p o (x ∷ xs) ls (s ∷ ss) a = by_gone (input_uses_are p o xs ls ss (later_inputs x xs s ss a)) s.gone refl
   where
-    rest : uses_of (use_in p o) xs ≡ input_uses p o (nodes_seen xs ls ss)
-    rest = input_uses_are p o xs ls ss (later_inputs x xs s ss a)
-
     home : x.home ≡ s.home
     home = (same_head _ _ _ _ a.homes).0
 
@@ -62,11 +59,11 @@ input_uses_are p o (x ∷ xs) ls (s ∷ ss) a = by_gone s.gone refl
     none true = refl
     none false = refl
 
-    by_gone : (g : Option ℕ) → s.gone ≡ g → times_in (use_in p o) x + uses_of (use_in p o) xs ≡ input_uses p o (nodes_seen (x ∷ xs) ls (s ∷ ss))
-    by_gone None e =
+    by_gone : uses_of (use_in p o) xs ≡ input_uses p o (nodes_seen xs ls ss) → (g : Option ℕ) → s.gone ≡ g → times_in (use_in p o) x + uses_of (use_in p o) xs ≡ input_uses p o (nodes_seen (x ∷ xs) ls (s ∷ ss))
+    by_gone rest None e =
         (λ i. here i + rest i)
         ∙ sym (ap (λ g. input_uses p o (cond (is_live (record s { gone = g })) (slot_seen x.origins ls s ∷ nodes_seen xs ls ss) (nodes_seen xs ls ss))) e)
-    by_gone (Some r) e =
+    by_gone rest (Some r) e =
         ap (λ os. cond (same_place p x.home) (times o os) 0 + uses_of (use_in p o) xs) (a.left 0 r e)
         ∙ ap (λ n. n + uses_of (use_in p o) xs) (none (same_place p x.home)) ∙ (omega (arith, rest))
         ∙ sym (ap (λ g. input_uses p o (cond (is_live (record s { gone = g })) (slot_seen x.origins ls s ∷ nodes_seen xs ls ss) (nodes_seen xs ls ss))) e)
@@ -89,14 +86,11 @@ place_true p q h = let b = both _ _ h in λ i. record { node = node_true p.node 
 -- the lists of this place hold nothing
 pub no_list_uses : (p : Place) (o : Origin) (ls : List PlainList) → ((k : ℕ) → slice_get (homes_of ls) k ≡ Some p → origins_at ls k ≡ []) → uses_of (use_in p o) ls ≡ 0
 no_list_uses p o [] h = refl
-no_list_uses p o (x ∷ xs) h = by (same_place p x.home) refl
+no_list_uses p o (x ∷ xs) h = by (no_list_uses p o xs (λ k e. h (suc k) e)) (same_place p x.home) refl
   where
-    rest : uses_of (use_in p o) xs ≡ 0
-    rest = no_list_uses p o xs (λ k e. h (suc k) e)
-
-    by : (t : Bool) → same_place p x.home ≡ t → cond t (times o x.origins) 0 + uses_of (use_in p o) xs ≡ 0
-    by true e = omega (arith, ap (times o) (h 0 (ap Some (sym (place_true p x.home e)))), rest)
-    by false e = omega (arith, rest)
+    by : uses_of (use_in p o) xs ≡ 0 → (t : Bool) → same_place p x.home ≡ t → cond t (times o x.origins) 0 + uses_of (use_in p o) xs ≡ 0
+    by rest true e = omega (arith, ap (times o) (h 0 (ap Some (sym (place_true p x.home e)))), rest)
+    by rest false e = omega (arith, rest)
 
 -- one list is of this place
 pub one_list_uses : (p : Place) (o : Origin) (ls : List PlainList) (j : ℕ) → slice_get (homes_of ls) j ≡ Some p → ((k : ℕ) → slice_get (homes_of ls) k ≡ Some p → k ≡ j)
@@ -117,11 +111,8 @@ one_list_uses p o (x ∷ xs) zero e h =
 
     place_self : (q : Place) → same_place q q ≡ true
     place_self q = λ i. node_self q.node i && eq-eqb q.region q.region refl i
-one_list_uses p o (x ∷ xs) (suc j) e h = by (same_place p x.home) refl
+one_list_uses p o (x ∷ xs) (suc j) e h = by (one_list_uses p o xs j e (λ k f. let z : suc k ≡ suc j = h (suc k) f in omega (arith, z))) (same_place p x.home) refl
   where
-    rest : uses_of (use_in p o) xs ≡ times o (origins_at xs j)
-    rest = one_list_uses p o xs j e (λ k f. let z : suc k ≡ suc j = h (suc k) f in omega (arith, z))
-
-    by : (t : Bool) → same_place p x.home ≡ t → cond t (times o x.origins) 0 + uses_of (use_in p o) xs ≡ times o (origins_at xs j)
-    by true f = absurd (let z : 0 ≡ suc j = h 0 (ap Some (sym (place_true p x.home f))) in omega (arith, z))
-    by false f = omega (arith, rest)
+    by : uses_of (use_in p o) xs ≡ times o (origins_at xs j) → (t : Bool) → same_place p x.home ≡ t → cond t (times o x.origins) 0 + uses_of (use_in p o) xs ≡ times o (origins_at xs j)
+    by rest true f = absurd (let z : 0 ≡ suc j = h 0 (ap Some (sym (place_true p x.home f))) in omega (arith, z))
+    by rest false f = omega (arith, rest)

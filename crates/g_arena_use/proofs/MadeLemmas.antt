@@ -6,7 +6,7 @@ use Rattle.std.proofs.lemmas.Option.{get_or_from_slice_get, same_Some}
 use Rattle.g_graph.specs.declared.op.Origin.{Origin}
 use Rattle.g_arena_use.specs.declared.use_index.Use.{Use}
 use Rattle.g_arena_use.specs.UseCells.{UseCells, no_uses, with_written}
-use Rattle.g_arena_use.specs.Lists.{PlainList, PlainUses, use_in, AreNamedIn, AllNamed}
+use Rattle.g_arena_use.specs.Lists.{PlainList, PlainUses, use_in, origins_in, AreNamedIn, AllNamed}
 use Rattle.g_arena_use.specs.Sites.{PlainSite, list_seen, held, site_cells, cells_of, AreLaid, AreFull, owners_from}
 use Rattle.g_arena_use.proofs.NameLemmas.{apart}
 use Rattle.g_arena_use.proofs.CellLemmas.{written_in}
@@ -50,6 +50,13 @@ made_more sites sites' owners owners' lists l m e f =
       seen = ap (map list_seen) e ∙ map_push list_seen sites s ∙ ap (λ ls. ls ++ l ∷ []) m.seen;
     }
 
+pub made_room : (sites : List PlainSite) (owners : List ℕ) (lists : List PlainList) → Made sites owners lists → length owners ≡ origins_in lists
+made_room sites owners lists m = ap length m.owned ∙ total 0 sites m.full ∙ ap origins_in m.seen
+  where
+    total : (k : ℕ) (ss : List PlainSite) → AreFull ss → length (owners_from k ss) ≡ origins_in (map list_seen ss)
+    total k [] h = refl
+    total k (x ∷ ss) h = omega (arith, length-append (replicate x.room k) (owners_from (suc k) ss), length-replicate x.room k, h.0, total (suc k) ss h.1)
+
 pub made_cells : (sites : List PlainSite) (owners : List ℕ) (lists : List PlainList) → Made sites owners lists → length owners ≡ length (cells_of sites)
 made_cells sites owners lists m = ap length m.owned ∙ owners_length 0 0 sites m.laid
 
@@ -73,13 +80,13 @@ start_at first (x ∷ ss) (suc at) s l e =
     let h = site_length x l.1 in
     (omega (arith, r.0, n, h), omega (arith, r.1, n, m))
 
+cells_next : (ss : List PlainSite) (at : ℕ) (s : PlainSite) → slice_get ss at ≡ Some s → cells_of (take (suc at) ss) ≡ cells_of (take at ss) ++ site_cells s
+cells_next [] at s e = absurd (apart s e)
+cells_next (x ∷ ss) zero s e = append-nil (site_cells x) ∙ ap site_cells (same_Some x s e)
+cells_next (x ∷ ss) (suc at) s e = ap (λ c. site_cells x ++ c) (cells_next ss at s e) ∙ sym (append_assoc (site_cells x) (cells_of (take at ss)) (site_cells s))
+
 cells_more : (ss : List PlainSite) (at : ℕ) (s : PlainSite) → slice_get ss at ≡ Some s → cells_of (take (at + 1) ss) ≡ cells_of (take at ss) ++ site_cells s
-cells_more ss at s e = ap (λ n. cells_of (take n ss)) (omega arith) ∙ by ss at e
-  where
-    by : (ss : List PlainSite) (at : ℕ) → slice_get ss at ≡ Some s → cells_of (take (suc at) ss) ≡ cells_of (take at ss) ++ site_cells s
-    by [] at e = absurd (apart s e)
-    by (x ∷ ss) zero e = append-nil (site_cells x) ∙ ap site_cells (same_Some x s e)
-    by (x ∷ ss) (suc at) e = ap (λ c. site_cells x ++ c) (by ss at e) ∙ sym (append_assoc (site_cells x) (cells_of (take at ss)) (site_cells s))
+cells_more ss at s e = ap (λ n. cells_of (take n ss)) (let z : at + 1 ≡ suc at = omega arith in z) ∙ cells_next ss at s e
 
 pub named_in : (names : List Use) (ss : List PlainSite) (at : ℕ) (s : PlainSite) → AllNamed names (map list_seen ss) → slice_get ss at ≡ Some s → AreNamedIn names s.home s.origins
 named_in names [] at s h e = absurd (apart s e)

@@ -18,11 +18,13 @@ use Rattle.g_arena_use.proofs.SiteLemmas.{picks, skips, right_false}
 
 times_moved : (o to : Origin) (xs : List Origin) → same_origin o to ≡ false → some_of (same_origin o) xs ≡ true → times o (first_with o to xs) + 1 ≡ times o xs
 times_moved o to [] n e = absurd (true≢false (sym e))
-times_moved o to (x ∷ xs) n e = by_test (same_origin o x) refl e
+times_moved o to (x ∷ xs) n e = by_test (same_origin o x) refl (λ h. times_moved o to xs n h) e
   where
-    by_test : (t : Bool) → same_origin o x ≡ t → (t || some_of (same_origin o) xs) ≡ true → times o (cond t (to ∷ xs) (x ∷ first_with o to xs)) + 1 ≡ cond t 1 0 + times o xs
-    by_test true q e = ap (λ b. cond b 1 0 + times o xs + 1) n ∙ omega arith
-    by_test false q e = ap (λ b. cond b 1 0 + times o (first_with o to xs) + 1) q ∙ omega (arith, times_moved o to xs n e)
+    by_test : (t : Bool) → same_origin o x ≡ t → (some_of (same_origin o) xs ≡ true → times o (first_with o to xs) + 1 ≡ times o xs) → (t || some_of (same_origin o) xs) ≡ true → times o (cond t (to ∷ xs) (x ∷ first_with o to xs)) + 1 ≡ cond t 1 0 + times o xs
+    by_test true q ih e = let z : 0 + times o xs + 1 ≡ 1 + times o xs = omega arith in ap (λ b. cond b 1 0 + times o xs + 1) n ∙ z
+    by_test false q ih e =
+        let z : 0 + times o (first_with o to xs) + 1 ≡ 0 + times o xs = omega (arith, ih e) in
+        ap (λ b. cond b 1 0 + times o (first_with o to xs) + 1) q ∙ z
 
 times_none : (o : Origin) (xs : List Origin) → some_of (same_origin o) xs ≡ false → times o xs ≡ 0
 times_none o [] e = refl
@@ -41,29 +43,29 @@ both_true false b h = absurd (true≢false (sym h))
 
 pub one_less : (u : Use) (to : Origin) (ls : List PlainList) → same_origin u.of to ≡ false → 0 < uses_of u ls → uses_of u (use_moved u to ls) + 1 ≡ uses_of u ls
 one_less u to [] n lt = absurd (omega arith)
-one_less u to (l ∷ ls) n lt = by_test (has_use u l) refl
+one_less u to (l ∷ ls) n lt = by_test (has_use u l) refl (λ h. one_less u to ls n h)
   where
-    by_test : (t : Bool) → has_use u l ≡ t → uses_of u (cond t (record l { origins = first_with u.of to l.origins } ∷ ls) (l ∷ use_moved u to ls)) + 1 ≡ times_in u l + uses_of u ls
-    by_test true e =
+    by_test : (t : Bool) → has_use u l ≡ t → (0 < uses_of u ls → uses_of u (use_moved u to ls) + 1 ≡ uses_of u ls) → uses_of u (cond t (record l { origins = first_with u.of to l.origins } ∷ ls) (l ∷ use_moved u to ls)) + 1 ≡ times_in u l + uses_of u ls
+    by_test true e ih =
         let b = both_true _ _ e in
         let less : cond (same_place u.home l.home) (times u.of (first_with u.of to l.origins)) 0 + 1 ≡ cond (same_place u.home l.home) (times u.of l.origins) 0 =
             ap (λ t. cond t (times u.of (first_with u.of to l.origins)) 0 + 1) b.0 ∙ times_moved u.of to l.origins n b.1 ∙ sym (ap (λ t. cond t (times u.of l.origins) 0) b.0) in
         omega (arith, less)
-    by_test false e = let z = not_in u l e in omega (arith, z, one_less u to ls n (omega (arith, z, lt)))
+    by_test false e ih = let z : times_in u l ≡ 0 = not_in u l e in let some : 0 < uses_of u ls = omega (arith, z, lt) in let h = ih some in omega (arith, z, h)
 
 -- ---- all of them
 
 renamed_first : (o to : Origin) (xs : List Origin) → same_origin o to ≡ false → map (moved o to) (first_with o to xs) ≡ map (moved o to) xs
 renamed_first o to [] n = refl
-renamed_first o to (x ∷ xs) n = by_test (same_origin o x) refl
+renamed_first o to (x ∷ xs) n = by_test (same_origin o x) refl (renamed_first o to xs n)
   where
-    by_test : (t : Bool) → same_origin o x ≡ t → map (moved o to) (cond t (to ∷ xs) (x ∷ first_with o to xs)) ≡ moved o to x ∷ map (moved o to) xs
-    by_test true e = ap (λ y. y ∷ map (moved o to) xs) (skips (same_origin o to) to to n ∙ sym (picks (same_origin o x) to x e))
-    by_test false e = ap (λ ys. moved o to x ∷ ys) (renamed_first o to xs n)
+    by_test : (t : Bool) → same_origin o x ≡ t → map (moved o to) (first_with o to xs) ≡ map (moved o to) xs → map (moved o to) (cond t (to ∷ xs) (x ∷ first_with o to xs)) ≡ moved o to x ∷ map (moved o to) xs
+    by_test true e ih = ap (λ y. y ∷ map (moved o to) xs) (skips (same_origin o to) to to n ∙ sym (picks (same_origin o x) to x e))
+    by_test false e ih = ap (λ ys. moved o to x ∷ ys) ih
 
 pub same_renamed : (u : Use) (to : Origin) (ls : List PlainList) → same_origin u.of to ≡ false → all_renamed u.home (moved u.of to) (use_moved u to ls) ≡ all_renamed u.home (moved u.of to) ls
 same_renamed u to [] n = refl
-same_renamed u to (l ∷ ls) n = by_test (has_use u l) refl
+same_renamed u to (l ∷ ls) n = by_test (has_use u l) refl (same_renamed u to ls n)
   where
     at_place : (t : Bool) → same_place u.home l.home ≡ t → has_use u l ≡ true → renamed_in u.home (moved u.of to) (record l { origins = first_with u.of to l.origins }) ≡ renamed_in u.home (moved u.of to) l
     at_place true e h =
@@ -72,25 +74,25 @@ same_renamed u to (l ∷ ls) n = by_test (has_use u l) refl
         ∙ sym (picks (same_place u.home l.home) (record l { origins = map (moved u.of to) l.origins }) l e)
     at_place false e h = absurd (true≢false (sym (both_true _ _ h).0 ∙ e))
 
-    by_test : (t : Bool) → has_use u l ≡ t → all_renamed u.home (moved u.of to) (cond t (record l { origins = first_with u.of to l.origins } ∷ ls) (l ∷ use_moved u to ls)) ≡ renamed_in u.home (moved u.of to) l ∷ all_renamed u.home (moved u.of to) ls
-    by_test true h = ap (λ k. k ∷ all_renamed u.home (moved u.of to) ls) (at_place (same_place u.home l.home) refl h)
-    by_test false h = ap (λ ks. renamed_in u.home (moved u.of to) l ∷ ks) (same_renamed u to ls n)
+    by_test : (t : Bool) → has_use u l ≡ t → all_renamed u.home (moved u.of to) (use_moved u to ls) ≡ all_renamed u.home (moved u.of to) ls → all_renamed u.home (moved u.of to) (cond t (record l { origins = first_with u.of to l.origins } ∷ ls) (l ∷ use_moved u to ls)) ≡ renamed_in u.home (moved u.of to) l ∷ all_renamed u.home (moved u.of to) ls
+    by_test true h ih = ap (λ k. k ∷ all_renamed u.home (moved u.of to) ls) (at_place (same_place u.home l.home) refl h)
+    by_test false h ih = ap (λ ks. renamed_in u.home (moved u.of to) l ∷ ks) ih
 
 none_renamed : (o to : Origin) (xs : List Origin) → times o xs ≡ 0 → map (moved o to) xs ≡ xs
 none_renamed o to [] e = refl
-none_renamed o to (x ∷ xs) e = by_test (same_origin o x) refl e
+none_renamed o to (x ∷ xs) e = by_test (same_origin o x) refl (λ h. none_renamed o to xs h) e
   where
-    by_test : (t : Bool) → same_origin o x ≡ t → cond t 1 0 + times o xs ≡ 0 → moved o to x ∷ map (moved o to) xs ≡ x ∷ xs
-    by_test true q e = absurd (omega (arith, e))
-    by_test false q e = let h = none_renamed o to xs (omega (arith, e)) in let g = skips (same_origin o x) to x q in λ i. g i ∷ h i
+    by_test : (t : Bool) → same_origin o x ≡ t → (times o xs ≡ 0 → map (moved o to) xs ≡ xs) → cond t 1 0 + times o xs ≡ 0 → moved o to x ∷ map (moved o to) xs ≡ x ∷ xs
+    by_test true q ih e = absurd (omega (arith, e))
+    by_test false q ih e = let h = ih (omega (arith, e)) in let g = skips (same_origin o x) to x q in λ i. g i ∷ h i
 
 pub all_same : (u : Use) (to : Origin) (ls : List PlainList) → uses_of u ls ≡ 0 → all_renamed u.home (moved u.of to) ls ≡ ls
 all_same u to [] e = refl
-all_same u to (l ∷ ls) e = by_place (same_place u.home l.home) (omega (arith, e))
+all_same u to (l ∷ ls) e = by_place (same_place u.home l.home) (all_same u to ls (omega (arith, e))) (omega (arith, e))
   where
-    by_place : (t : Bool) → cond t (times u.of l.origins) 0 ≡ 0 → cond t (record l { origins = map (moved u.of to) l.origins }) l ∷ all_renamed u.home (moved u.of to) ls ≡ l ∷ ls
-    by_place true h = let g = none_renamed u.of to l.origins h in let r = all_same u to ls (omega (arith, e)) in λ i. record { home = l.home; origins = g i } ∷ r i
-    by_place false h = ap (λ ks. l ∷ ks) (all_same u to ls (omega (arith, e)))
+    by_place : (t : Bool) → all_renamed u.home (moved u.of to) ls ≡ ls → cond t (times u.of l.origins) 0 ≡ 0 → cond t (record l { origins = map (moved u.of to) l.origins }) l ∷ all_renamed u.home (moved u.of to) ls ≡ l ∷ ls
+    by_place true r h = let g = none_renamed u.of to l.origins h in λ i. record { home = l.home; origins = g i } ∷ r i
+    by_place false r h = ap (λ ks. l ∷ ks) r
 
 -- ---- one renaming after another
 
@@ -155,7 +157,12 @@ moves_here k m q lt e =
     by_low false = refl
 
 not_moved : (k m q : ℕ) → moves k m q ≡ true → eqb m (q - 1) ≡ false
-not_moved k m q e = let b = both_true _ _ e in ne_eqb m (q - 1) (λ z. let l = ltb-true q m b.1 in omega (arith, l, z))
+not_moved k m q e =
+    let low : ltb q m ≡ true = (both_true (ltb k q) (ltb q m) e).1 in
+    let high : ltb k q ≡ true = (both_true (ltb k q) (ltb q m) e).0 in
+    let a : q < m = ltb-true q m low in
+    let b : k < q = ltb-true k q high in
+    ne_eqb m (q - 1) (λ (z : m ≡ q - 1). omega (arith, a, b, z))
 
 pub argument_none : (k : ℕ) (o : Origin) → argument_less k (k + 1) o ≡ o
 argument_none k (Arg q) = skips (moves k (k + 1) q) (Arg (q - 1)) (Arg q) (between_none k q)

@@ -63,34 +63,34 @@ not_among u (w ∷ ws) (suc j) v h e = not_among u ws j v (or_parts _ _ h).1 e
 -- a use with a number is that of no other number
 key_is : (u : Use) (vs : List Use) (k j : ℕ) (v : Use) → AreOnce vs → number_of u vs ≡ Some k → slice_get vs j ≡ Some v → same_use u v ≡ eqb j k
 key_is u [] k j v d n e = absurd (apart v e)
-key_is u (w ∷ ws) k j v d n e = by_test (same_use u w) refl k j n e
+key_is u (w ∷ ws) k j v d n e = by_test (same_use u w) refl (λ a b p q. key_is u ws a b v d.1 p q) k j n e
   where
-    by_test : (t : Bool) → same_use u w ≡ t → (k j : ℕ) → cond t (Some 0) (option_map suc (number_of u ws)) ≡ Some k → slice_get (w ∷ ws) j ≡ Some v → same_use u v ≡ eqb j k
-    by_test true q k zero n e =
+    by_test : (t : Bool) → same_use u w ≡ t → ((a b : ℕ) → number_of u ws ≡ Some a → slice_get ws b ≡ Some v → same_use u v ≡ eqb b a) → (k j : ℕ) → cond t (Some 0) (option_map suc (number_of u ws)) ≡ Some k → slice_get (w ∷ ws) j ≡ Some v → same_use u v ≡ eqb j k
+    by_test true q ih k zero n e =
         let z : 0 ≡ k = same_Some _ _ n in
         ap (λ x. same_use u x) (sym (same_Some _ _ e)) ∙ q ∙ sym (eq-eqb 0 k z)
-    by_test true q k (suc j) n e =
+    by_test true q ih k (suc j) n e =
         let z : 0 ≡ k = same_Some _ _ n in
         let P : Use → Type 0 = λ x. is_named x ws ≡ false in
         not_among u ws j v (subst P (sym (same_use_true u w q)) d.0) e ∙ sym (ne_eqb (suc j) k (λ r. omega (arith, r, z)))
-    by_test false q k zero n e =
+    by_test false q ih k zero n e =
         let m = one_more (number_of u ws) k n in
         let z : k ≡ suc m.0 = m.2 in
         ap (λ x. same_use u x) (sym (same_Some _ _ e)) ∙ q ∙ sym (ne_eqb 0 k (λ r. omega (arith, r, z)))
-    by_test false q k (suc j) n e =
+    by_test false q ih k (suc j) n e =
         let m = one_more (number_of u ws) k n in
-        key_is u ws m.0 j v d.1 m.1 e ∙ shifted j m.0 ∙ ap (λ x. eqb (suc j) x) (sym m.2)
+        ih m.0 j m.1 e ∙ shifted j m.0 ∙ ap (λ x. eqb (suc j) x) (sym m.2)
       where
         shifted : (a b : ℕ) → eqb a b ≡ eqb (suc a) (suc b)
         shifted a b = refl
 
 number_within : (u : Use) (vs : List Use) (k : ℕ) → number_of u vs ≡ Some k → k < length vs
 number_within u [] k n = absurd (apart k n)
-number_within u (w ∷ ws) k n = by_test (same_use u w) k n
+number_within u (w ∷ ws) k n = by_test (same_use u w) (λ a p. number_within u ws a p) k n
   where
-    by_test : (t : Bool) (k : ℕ) → cond t (Some 0) (option_map suc (number_of u ws)) ≡ Some k → k < suc (length ws)
-    by_test true k n = let z : 0 ≡ k = same_Some _ _ n in omega (arith, z)
-    by_test false k n = let m = one_more (number_of u ws) k n in omega (arith, number_within u ws m.0 m.1, m.2)
+    by_test : (t : Bool) → ((a : ℕ) → number_of u ws ≡ Some a → a < length ws) → (k : ℕ) → cond t (Some 0) (option_map suc (number_of u ws)) ≡ Some k → k < suc (length ws)
+    by_test true ih k n = let z : 0 ≡ k = same_Some _ _ n in omega (arith, z)
+    by_test false ih k n = let m = one_more (number_of u ws) k n in omega (arith, ih m.0 m.1, m.2)
 
 name_within : (vs : List Use) (j : ℕ) → j < length vs → (v : Use) × (slice_get vs j ≡ Some v)
 name_within [] j lt = absurd (omega arith)
@@ -100,16 +100,16 @@ name_within (w ∷ ws) (suc j) lt = name_within ws j (omega arith)
 -- a number gives its use
 name_of_number : (u : Use) (vs : List Use) (k : ℕ) → number_of u vs ≡ Some k → slice_get vs k ≡ Some u
 name_of_number u [] k n = absurd (apart k n)
-name_of_number u (w ∷ ws) k n = by_test (same_use u w) refl k n
+name_of_number u (w ∷ ws) k n = by_test (same_use u w) refl (λ a p. name_of_number u ws a p) k n
   where
-    by_test : (t : Bool) → same_use u w ≡ t → (k : ℕ) → cond t (Some 0) (option_map suc (number_of u ws)) ≡ Some k → slice_get (w ∷ ws) k ≡ Some u
-    by_test true q k n = ap (λ j. slice_get (w ∷ ws) j) (sym (same_Some _ _ n)) ∙ ap Some (sym (same_use_true u w q))
-    by_test false q k n =
+    by_test : (t : Bool) → same_use u w ≡ t → ((a : ℕ) → number_of u ws ≡ Some a → slice_get ws a ≡ Some u) → (k : ℕ) → cond t (Some 0) (option_map suc (number_of u ws)) ≡ Some k → slice_get (w ∷ ws) k ≡ Some u
+    by_test true q ih k n = ap (λ j. slice_get (w ∷ ws) j) (sym (same_Some _ _ n)) ∙ ap Some (sym (same_use_true u w q))
+    by_test false q ih k n =
         let m = one_more (number_of u ws) k n in
-        ap (λ j. slice_get (w ∷ ws) j) m.2 ∙ name_of_number u ws m.0 m.1
+        ap (λ j. slice_get (w ∷ ws) j) m.2 ∙ ih m.0 m.1
 
 -- a cell holds the use where it holds the number
-AllWithin : List Use → List (Option ℕ) → Type 0
+abbrev pub AllWithin : List Use → List (Option ℕ) → Type 0
 AllWithin names xs = (c k : ℕ) → get_or xs c None ≡ Some k → k < length names
 
 use_is_key : (u : Use) (names : List Use) (k : ℕ) (o : Option ℕ) → AreOnce names → number_of u names ≡ Some k → ((j : ℕ) → o ≡ Some j → j < length names)
@@ -129,7 +129,6 @@ no_use_is u names (Some j) h = by (slice_get names j) refl
 
 pub counts_same : (u : Use) (names : List Use) (k : ℕ) (xs : List (Option ℕ)) → AreOnce names → number_of u names ≡ Some k → AllWithin names xs
     → key_count k xs ≡ count_of u (map (name_of names) xs)
-unfolding AllWithin
 counts_same u names k [] d n w = refl
 counts_same u names k (x ∷ xs) d n w =
     let e = use_is_key u names k x d n (λ j q. w 0 j q) in
@@ -145,7 +144,6 @@ counts_none u names (x ∷ xs) h =
 
 pub firsts_same : (u : Use) (names : List Use) (k : ℕ) (xs : List (Option ℕ)) → AreOnce names → number_of u names ≡ Some k → AllWithin names xs
     → key_first k xs ≡ first_of u (map (name_of names) xs)
-unfolding AllWithin
 firsts_same u names k [] d n w = refl
 firsts_same u names k (x ∷ xs) d n w =
     let e = use_is_key u names k x d n (λ j q. w 0 j q) in
@@ -162,15 +160,15 @@ firsts_none u names (x ∷ xs) h =
 -- a use is named where it has a number
 named_some : (u : Use) (vs : List Use) (k : ℕ) → number_of u vs ≡ Some k → is_named u vs ≡ true
 named_some u [] k n = absurd (apart k n)
-named_some u (w ∷ ws) k n = by_test (same_use u w) refl k n
+named_some u (w ∷ ws) k n = by_test (same_use u w) refl (λ a p. named_some u ws a p) k n
   where
-    by_test : (t : Bool) → same_use u w ≡ t → (k : ℕ) → cond t (Some 0) (option_map suc (number_of u ws)) ≡ Some k → (t || is_named u ws) ≡ true
-    by_test true q k n = refl
-    by_test false q k n = let m = one_more (number_of u ws) k n in named_some u ws m.0 m.1
+    by_test : (t : Bool) → same_use u w ≡ t → ((a : ℕ) → number_of u ws ≡ Some a → is_named u ws ≡ true) → (k : ℕ) → cond t (Some 0) (option_map suc (number_of u ws)) ≡ Some k → (t || is_named u ws) ≡ true
+    by_test true q ih k n = refl
+    by_test false q ih k n = let m = one_more (number_of u ws) k n in ih m.0 m.1
 
 pub named_none : (u : Use) (vs : List Use) → number_of u vs ≡ None → is_named u vs ≡ false
 named_none u [] n = refl
-named_none u (w ∷ ws) n = by_test (same_use u w) n
+named_none u (w ∷ ws) n = by_test (same_use u w) (λ p. named_none u ws p) n
   where
     some_first : Some {A = ℕ} 0 ≡ None → ⊥
     some_first h = cc
@@ -179,9 +177,9 @@ named_none u (w ∷ ws) n = by_test (same_use u w) n
     none_of None h = refl
     none_of (Some j) h = absurd (apart (suc j) (sym h))
 
-    by_test : (t : Bool) → cond t (Some 0) (option_map suc (number_of u ws)) ≡ None → (t || is_named u ws) ≡ false
-    by_test true n = absurd (some_first n)
-    by_test false n = named_none u ws (none_of (number_of u ws) n)
+    by_test : (t : Bool) → (number_of u ws ≡ None → is_named u ws ≡ false) → cond t (Some 0) (option_map suc (number_of u ws)) ≡ None → (t || is_named u ws) ≡ false
+    by_test true ih n = absurd (some_first n)
+    by_test false ih n = ih (none_of (number_of u ws) n)
 
 -- the map of cells after a write
 map_set : {A B : Type 0} (f : A → B) (xs : List A) (i : ℕ) (y : A) → map f (set xs i y) ≡ set (map f xs) i (f y)
@@ -285,15 +283,13 @@ module _ (names : List Use) (s : Keys) (v : UseCells) (held : AreHeld names s v)
       by_test b j false q e = by_other b j (eqb b d) refl (sym (get_or-set_other (set s.cells d (key_at s c)) c b None None (eqb-false b c q)) ∙ e)
 
   pub count_held : (u : Use) (k n : ℕ) → Some k ≡ number_of u names → n ≡ key_count k s.cells → n ≡ count_of u v.cells
-  unfolding AllWithin
-  count_held u k n e h = h ∙ counts_same u names k s.cells held.is.once (sym e) (λ c j q. held.is.within c j q) ∙ ap (count_of u) cells_same
+    count_held u k n e h = h ∙ counts_same u names k s.cells held.is.once (sym e) (λ c j q. held.is.within c j q) ∙ ap (count_of u) cells_same
 
   pub count_not : (u : Use) → None ≡ number_of u names → 0 ≡ count_of u v.cells
   count_not u e = counts_none u names s.cells (named_none u names (sym e)) ∙ ap (count_of u) cells_same
 
   pub first_held : (u : Use) (k : ℕ) (o : Option ℕ) → Some k ≡ number_of u names → o ≡ key_first k s.cells → o ≡ first_of u v.cells
-  unfolding AllWithin
-  first_held u k o e h = h ∙ firsts_same u names k s.cells held.is.once (sym e) (λ c j q. held.is.within c j q) ∙ ap (first_of u) cells_same
+    first_held u k o e h = h ∙ firsts_same u names k s.cells held.is.once (sym e) (λ c j q. held.is.within c j q) ∙ ap (first_of u) cells_same
 
   pub first_not : (u : Use) → None ≡ number_of u names → None ≡ first_of u v.cells
   first_not u e = firsts_none u names s.cells (named_none u names (sym e)) ∙ ap (first_of u) cells_same

@@ -15,7 +15,7 @@ written_length c ws xs le =
     omega (arith, length-append (take c xs) (ws ++ drop (c + length ws) xs), length-append ws (drop (c + length ws) xs), length-take-le c xs few, length-drop (c + length ws) xs)
 
 pub written_none : (s : UseCells) (c : ℕ) → s ≡ with_written s c []
-written_none s c = λ i. record { names = s.names; cells = (sym (ap (λ n. take c s.cells ++ drop n s.cells) (omega arith) ∙ take-append-drop c s.cells)) i }
+written_none s c = λ i. record { names = s.names; cells = (sym (ap (λ n. take c s.cells ++ drop n s.cells) (let z : c + 0 ≡ c = omega arith in z) ∙ take-append-drop c s.cells)) i }
 
 pub written_more : (s t r : UseCells) (c n : ℕ) (ws : List (Option Use)) (v : Option Use) → s ≡ with_written t c ws → n ≡ c + length ws → n < length t.cells → r ≡ with_use s n v → r ≡ with_written t c (ws ++ v ∷ [])
 written_more s t r c n ws v e f lt g =
@@ -39,7 +39,7 @@ closed_length c i xs lt =
 
 pub closed_none : (s t : UseCells) (c : ℕ) → c < length s.cells → t ≡ with_use s c None → t ≡ with_closed s c 0
 closed_none s t c lt e =
-    e ∙ (λ i. record { names = s.names; cells = (set_split s.cells c None lt ∙ ap (λ n. take c s.cells ++ None ∷ drop n s.cells) (omega arith)) i })
+    e ∙ (λ i. record { names = s.names; cells = (set_split s.cells c None lt ∙ ap (λ n. take c s.cells ++ None ∷ drop n s.cells) (let z : suc c ≡ c + 1 = omega arith in z)) i })
 
 pub closed_free : (s t : UseCells) (c i n : ℕ) → s ≡ with_closed t c i → n ≡ c + i → c + i < length t.cells → cell_at s n ≡ None
 closed_free s t c i n e f lt =

@@ -113,14 +113,14 @@ counts u (s ∷ ss) =
 first_append : (u : Use) (xs ys : List (Option Use)) (r : ℕ) → first_of u (xs ++ ys) ≡ Some r
     → (first_of u xs ≡ Some r) ⊎ ((j : ℕ) × (first_of u xs ≡ None) × (first_of u ys ≡ Some j) × (r ≡ length xs + j))
 first_append u [] ys r e = inr (r, refl, e, omega arith)
-first_append u (x ∷ xs) ys r e = by_test (is_use u x) r e
+first_append u (x ∷ xs) ys r e = by_test (is_use u x) (λ a p. first_append u xs ys a p) r e
   where
-    by_test : (t : Bool) (r : ℕ) → cond t (Some 0) (option_map suc (first_of u (xs ++ ys))) ≡ Some r
+    by_test : (t : Bool) → ((a : ℕ) → first_of u (xs ++ ys) ≡ Some a → (first_of u xs ≡ Some a) ⊎ ((j : ℕ) × (first_of u xs ≡ None) × (first_of u ys ≡ Some j) × (a ≡ length xs + j))) → (r : ℕ) → cond t (Some 0) (option_map suc (first_of u (xs ++ ys))) ≡ Some r
         → (cond t (Some 0) (option_map suc (first_of u xs)) ≡ Some r) ⊎ ((j : ℕ) × (cond t (Some 0) (option_map suc (first_of u xs)) ≡ None) × (first_of u ys ≡ Some j) × (r ≡ suc (length xs) + j))
-    by_test true r e = inl e
-    by_test false r e =
+    by_test true ih r e = inl e
+    by_test false ih r e =
         let m = one_more (first_of u (xs ++ ys)) r e in
-        elim (first_append u xs ys m.0 m.1) [
+        elim (ih m.0 m.1) [
           inl h ↦ inl (ap (option_map suc) h ∙ ap Some (sym m.2))
         | inr h ↦ inr (h.0, ap (option_map suc) h.1, h.2, omega (arith, h.3, m.2))
         ]
@@ -137,10 +137,10 @@ record FirstHeld (u : Use) (p : Place) (xs : List Origin) (r : ℕ) : Type 0 whe
 
 first_held : (u : Use) (p : Place) (xs : List Origin) (r : ℕ) → first_of u (held p xs) ≡ Some r → FirstHeld u p xs r
 first_held u p [] r e = absurd (apart r e)
-first_held u p (x ∷ xs) r e = by_test (same_place u.home p && same_origin u.of x) refl r e
+first_held u p (x ∷ xs) r e = by_test (same_place u.home p && same_origin u.of x) refl (λ a q. first_held u p xs a q) r e
   where
-    by_test : (t : Bool) → (same_place u.home p && same_origin u.of x) ≡ t → (r : ℕ) → cond t (Some 0) (option_map suc (first_of u (held p xs))) ≡ Some r → FirstHeld u p (x ∷ xs) r
-    by_test true q r e =
+    by_test : (t : Bool) → (same_place u.home p && same_origin u.of x) ≡ t → ((a : ℕ) → first_of u (held p xs) ≡ Some a → FirstHeld u p xs a) → (r : ℕ) → cond t (Some 0) (option_map suc (first_of u (held p xs))) ≡ Some r → FirstHeld u p (x ∷ xs) r
+    by_test true q ih r e =
         let b = both _ _ q in
         let P : ℕ → Type 0 = λ n. FirstHeld u p (x ∷ xs) n in
         subst P (same_Some 0 r e) (record {
@@ -149,9 +149,9 @@ first_held u p (x ∷ xs) r e = by_test (same_place u.home p && same_origin u.of
           some = ap (λ t. t || some_of (same_origin u.of) xs) b.1;
           moved = λ to. picks (same_origin u.of x) (to ∷ xs) (x ∷ first_with u.of to xs) b.1;
         })
-    by_test false q r e =
+    by_test false q ih r e =
         let m = one_more (first_of u (held p xs)) r e in
-        let h = first_held u p xs m.0 m.1 in
+        let h = ih m.0 m.1 in
         let n = right_false (same_place u.home p) (same_origin u.of x) h.home q in
         let P : ℕ → Type 0 = λ n. FirstHeld u p (x ∷ xs) n in
         subst P (sym m.2) (record {
@@ -161,24 +161,36 @@ first_held u p (x ∷ xs) r e = by_test (same_place u.home p && same_origin u.of
           moved = λ to. skips (same_origin u.of x) (to ∷ xs) (x ∷ first_with u.of to xs) n ∙ ap (λ ys. x ∷ ys) (h.moved to);
         })
 
-held_none : (u : Use) (p : Place) (xs : List Origin) → first_of u (held p xs) ≡ None → (same_place u.home p && some_of (same_origin u.of) xs) ≡ false
-held_none u p xs e = by_place (same_place u.home p) refl xs e
+none_of : (o : Option ℕ) → option_map suc o ≡ None → o ≡ None
+none_of None h = refl
+none_of (Some j) h = absurd (apart (suc j) (sym h))
+
+some_first : Some {A = ℕ} 0 ≡ None → ⊥
+some_first h = cc
+
+none_held : (u : Use) (p : Place) (xs : List Origin) → same_place u.home p ≡ true → first_of u (held p xs) ≡ None → some_of (same_origin u.of) xs ≡ false
+none_held u p [] q e = refl
+none_held u p (x ∷ xs) q e = by_test (same_origin u.of x) refl (λ h. none_held u p xs q h) (sym (ap (λ b. cond (b && same_origin u.of x) (Some 0) (option_map suc (first_of u (held p xs)))) q) ∙ e)
   where
-    none_of : (o : Option ℕ) → option_map suc o ≡ None → o ≡ None
-    none_of None h = refl
-    none_of (Some j) h = absurd (apart (suc j) (sym h))
+    by_test : (t : Bool) → same_origin u.of x ≡ t → (first_of u (held p xs) ≡ None → some_of (same_origin u.of) xs ≡ false) → cond (same_origin u.of x) (Some 0) (option_map suc (first_of u (held p xs))) ≡ None
+        → (same_origin u.of x || some_of (same_origin u.of) xs) ≡ false
+    by_test true o ih e = absurd (some_first (sym (picks (same_origin u.of x) (Some 0) (option_map suc (first_of u (held p xs))) o) ∙ e))
+    by_test false o ih e = or_from _ _ o (ih (none_of _ (sym (skips (same_origin u.of x) (Some 0) (option_map suc (first_of u (held p xs))) o) ∙ e)))
 
-    some_first : Some {A = ℕ} 0 ≡ None → ⊥
-    some_first h = cc
+held_none : (u : Use) (p : Place) (xs : List Origin) → first_of u (held p xs) ≡ None → (same_place u.home p && some_of (same_origin u.of) xs) ≡ false
+held_none u p xs e = by_place (same_place u.home p) refl
+  where
+    by_place : (t : Bool) → same_place u.home p ≡ t → (t && some_of (same_origin u.of) xs) ≡ false
+    by_place false q = refl
+    by_place true q = none_held u p xs q e
 
-    by_place : (t : Bool) → same_place u.home p ≡ t → (xs : List Origin) → first_of u (held p xs) ≡ None → (t && some_of (same_origin u.of) xs) ≡ false
-    by_place false q xs e = refl
-    by_place true q [] e = refl
-    by_place true q (x ∷ xs) e = by_test (same_origin u.of x) refl (sym (ap (λ b. cond (b && same_origin u.of x) (Some 0) (option_map suc (first_of u (held p xs)))) q) ∙ e)
-      where
-        by_test : (t : Bool) → same_origin u.of x ≡ t → cond (true && same_origin u.of x) (Some 0) (option_map suc (first_of u (held p xs))) ≡ None → (same_origin u.of x || some_of (same_origin u.of) xs) ≡ false
-        by_test true o e = absurd (some_first (sym (picks (same_origin u.of x) (Some 0) (option_map suc (first_of u (held p xs))) o) ∙ e))
-        by_test false o e = or_from _ _ o (by_place true q xs (none_of _ (sym (skips (same_origin u.of x) (Some 0) (option_map suc (first_of u (held p xs))) o) ∙ e)))
+grown : (u : Use) (xs ys : List (Option Use)) (j : ℕ) → first_of u xs ≡ Some j → first_of u (xs ++ ys) ≡ Some j
+grown u [] ys j h = absurd (apart j h)
+grown u (x ∷ xs) ys j h = by_test (is_use u x) (λ a p. grown u xs ys a p) j h
+  where
+    by_test : (t : Bool) → ((a : ℕ) → first_of u xs ≡ Some a → first_of u (xs ++ ys) ≡ Some a) → (j : ℕ) → cond t (Some 0) (option_map suc (first_of u xs)) ≡ Some j → cond t (Some 0) (option_map suc (first_of u (xs ++ ys))) ≡ Some j
+    by_test true ih j h = h
+    by_test false ih j h = let m = one_more (first_of u xs) j h in ap (option_map suc) (ih m.0 m.1) ∙ ap Some (sym m.2)
 
 pub record FirstSite (u : Use) (to : Origin) (base k : ℕ) (ss : List PlainSite) (r : ℕ) : Type 0 where
   pub at : ℕ
@@ -194,17 +206,9 @@ pub record FirstSite (u : Use) (to : Origin) (base k : ℕ) (ss : List PlainSite
 no_held : (u : Use) (s : PlainSite) → first_of u (site_cells s) ≡ None → first_of u (held s.home s.origins) ≡ None
 no_held u s e = by (first_of u (held s.home s.origins)) refl
   where
-    grown : (xs ys : List (Option Use)) (j : ℕ) → first_of u xs ≡ Some j → first_of u (xs ++ ys) ≡ Some j
-    grown [] ys j h = absurd (apart j h)
-    grown (x ∷ xs) ys j h = by_test (is_use u x) j h
-      where
-        by_test : (t : Bool) (j : ℕ) → cond t (Some 0) (option_map suc (first_of u xs)) ≡ Some j → cond t (Some 0) (option_map suc (first_of u (xs ++ ys))) ≡ Some j
-        by_test true j h = h
-        by_test false j h = let m = one_more (first_of u xs) j h in ap (option_map suc) (grown xs ys m.0 m.1) ∙ ap Some (sym m.2)
-
     by : (o : Option ℕ) → first_of u (held s.home s.origins) ≡ o → first_of u (held s.home s.origins) ≡ None
     by None h = h
-    by (Some j) h = absurd (apart j (sym e ∙ grown (held s.home s.origins) (replicate (s.room - length s.origins) None) j h))
+    by (Some j) h = absurd (apart j (sym e ∙ grown u (held s.home s.origins) (replicate (s.room - length s.origins) None) j h))
 
 pub first_site : (u : Use) (to : Origin) (base k : ℕ) (ss : List PlainSite) (r : ℕ) → AreLaid base ss → first_of u (cells_of ss) ≡ Some r → FirstSite u to base k ss r
 first_site u to base k [] r l e = absurd (apart r e)

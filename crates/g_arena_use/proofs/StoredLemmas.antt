@@ -1,5 +1,5 @@
 -- Lists with an index of their uses, as stored and as seen: what is read of them, and what a change leaves.
-use Rattle.std.proofs.Common.{◌≡◌, ℕ, zero, suc, ◌+◌, ◌-◌, ◌<◌, ◌≤◌, Bool, true, Option, Some, None, List, [], ◌∷◌, ◌++◌, length, map, replicate, get_or, set, take, drop, refl, ap, sym, ◌∙◌, subst, append_assoc, length-append, length-set, length-drop, arith}
+use Rattle.std.proofs.Common.{◌≡◌, ℕ, zero, suc, ◌+◌, ◌-◌, ◌<◌, ◌≤◌, Bool, true, false, cond, Option, Some, None, List, [], ◌∷◌, ◌++◌, length, map, replicate, get_or, set, take, drop, refl, ap, sym, ◌∙◌, subst, append_assoc, length-append, length-set, length-drop, arith}
 use Rattle.std.specs.Prelude.{slice_get}
 use Rattle.std.specs.List.{remove}
 use Rattle.std.proofs.lemmas.List.{length-map, length-replicate, length-take-le, map-set, map-append, set-append_left, set-append_right, get_or_default, take-append-drop, drop_more, replicate-append-replicate, append-nil, take_all, get_or-map}
@@ -9,9 +9,11 @@ use Rattle.g_graph.specs.declared.op.Origin.TheVariants.{Arg}
 use Rattle.g_arena_def.specs.declared.place.Place.{Place}
 use Rattle.g_arena_def.specs.Edits.{at_with}
 use Rattle.g_arena_use.specs.declared.use_index.Use.{Use}
-use Rattle.g_arena_use.specs.UseCells.{UseCells, IsNamed, count_of, first_of, with_use, written, with_written, closed, with_closed}
+use Rattle.g_arena_use.specs.UseCells.{UseCells, IsNamed, is_use, count_of, first_of, with_use, written, with_written, closed, with_closed}
 use Rattle.g_arena_use.specs.Lists.{PlainList, PlainUses, no_list, origins_at, use_in, uses_of, use_moved, without, emptied, AreNamedIn, AllNamed}
 use Rattle.g_arena_use.specs.Sites.{PlainSite, list_seen, held, site_cells, cells_of, AreLaid, AreFull, owners_from}
+use Rattle.g_arena_use.specs.declared.use_lists.UseLists.TheInside.{Inside}
+use Rattle.g_arena_use.specs.Held.{uses_seen, AreIndexed}
 use Rattle.g_arena_use.proofs.NameLemmas.{apart, same_place_true}
 use Rattle.g_arena_use.proofs.CellLemmas.{written_in, gap_in}
 use Rattle.g_arena_use.proofs.SiteLemmas.{Changed, Around, around, owners_length, site_length, counts, FirstSite, first_site}
@@ -22,6 +24,24 @@ pub record Stored (sites : List PlainSite) (owners : List ℕ) (u : UseCells) (v
   pub cells : u.cells ≡ cells_of sites
   pub names : u.names ≡ v.names
   pub lists : map list_seen sites ≡ v.lists
+  pub room : length owners ≡ v.room
+
+-- the same of the fields of lists with an index
+pub stored : (a : Inside) (v : PlainUses) → AreIndexed a → uses_seen a ≡ v → Stored a.sites.items a.owners.items a.uses v
+stored a v h e = record {
+  laid = h.laid;
+  owned = h.owners;
+  cells = h.cells;
+  names = ap (λ (r : PlainUses). r.names) e;
+  lists = ap (λ (r : PlainUses). r.lists) e;
+  room = ap (λ (r : PlainUses). r.room) e;
+}
+
+pub indexed : (a : Inside) (v : PlainUses) → Stored a.sites.items a.owners.items a.uses v → AreIndexed a
+indexed a v s = record { laid = s.laid; owners = s.owned; cells = s.cells }
+
+pub seen : (a : Inside) (v : PlainUses) → Stored a.sites.items a.owners.items a.uses v → uses_seen a ≡ v
+seen a v s = λ i. record { names = s.names i; lists = s.lists i; room = s.room i }
 
 -- a use in a list of which each has a name
 pub named_at : (names : List Use) (p : Place) (xs : List Origin) (k : ℕ) (d : Origin) → AreNamedIn names p xs → k < length xs → IsNamed (use_in p (get_or xs k d)) names
@@ -37,6 +57,14 @@ at_of (x ∷ ss) zero s t f e h = ap (λ l. l ∷ map list_seen ss) (h ∙ ap (�
     get_it None = s
     get_it (Some y) = y
 at_of (x ∷ ss) (suc at) s t f e h = ap (λ ls. list_seen x ∷ ls) (at_of ss at s t f e h)
+
+count_le : (used : Use) (xs : List (Option Use)) → count_of used xs ≤ length xs
+count_le used [] = omega arith
+count_le used (x ∷ xs) = by (is_use used x) (count_le used xs)
+  where
+    by : (t : Bool) → count_of used xs ≤ length xs → cond t 1 0 + count_of used xs ≤ suc (length xs)
+    by true h = omega (arith, h)
+    by false h = omega (arith, h)
 
 module _ (sites : List PlainSite) (owners : List ℕ) (u : UseCells) (v : PlainUses) (is : Stored sites owners u v) where
   pub lists_length : length v.lists ≡ length sites
@@ -56,6 +84,9 @@ module _ (sites : List PlainSite) (owners : List ℕ) (u : UseCells) (v : PlainU
 
   cells_length : length u.cells ≡ length owners
   cells_length = ap length is.cells ∙ sym (owners_length 0 0 sites is.laid) ∙ sym (ap length is.owned)
+
+  pub count_most : (used : Use) (n : ℕ) → n ≡ count_of used u.cells → n ≤ v.room
+  count_most used n e = omega (arith, e, count_le used u.cells, cells_length, is.room)
 
   pub around_at : (at : ℕ) (s : PlainSite) → slice_get sites at ≡ Some s → Around 0 0 sites at s
   around_at at s e = around 0 0 sites at s is.laid e
@@ -101,7 +132,7 @@ module _ (sites : List PlainSite) (owners : List ℕ) (u : UseCells) (v : PlainU
 
   pub moved_is : (used : Use) (to : Origin) (cell x : ℕ) (s : PlainSite) (e : Some cell ≡ first_of used u.cells) → x ≡ get_or owners cell x → s ≡ get_or sites x s
       → (sites' : List PlainSite) (u' : UseCells) → sites' ≡ set sites x (record s { origins = set s.origins (cell - s.cell) to }) → u' ≡ with_use u cell (Some (use_in used.home to))
-      → Stored sites' owners u' (record { names = v.names; lists = use_moved used to v.lists })
+      → Stored sites' owners u' (record v { lists = use_moved used to v.lists })
   moved_is used to cell x s e h g sites' u' p q =
       let f = find used to cell e in
       let a = around_at f.at f.site f.there in
@@ -136,6 +167,7 @@ module _ (sites : List PlainSite) (owners : List ℕ) (u : UseCells) (v : PlainU
         cells = ap (λ (r : UseCells). r.cells) q ∙ ap (λ l. set l cell (Some (use_in used.home to))) is.cells ∙ row ∙ ap cells_of (sym whole);
         names = ap (λ (r : UseCells). r.names) q ∙ is.names;
         lists = ap (map list_seen) whole ∙ sym f.moved ∙ ap (use_moved used to) is.lists;
+        room = is.room;
       }
 
   -- ---- an origin goes
@@ -143,7 +175,7 @@ module _ (sites : List PlainSite) (owners : List ℕ) (u : UseCells) (v : PlainU
   pub removed_is : (at index : ℕ) (s : PlainSite) → slice_get sites at ≡ Some s → index < length s.origins
       → (n : ℕ) → n ≡ length s.origins - (index + 1)
       → (sites' : List PlainSite) (u' : UseCells) → sites' ≡ set sites at (record s { origins = remove s.origins index }) → u' ≡ with_closed u (s.cell + index) n
-      → Stored sites' owners u' (record { names = v.names; lists = at_with at (without index) v.lists })
+      → Stored sites' owners u' (record v { lists = at_with at (without index) v.lists })
   removed_is at index s e lt n m sites' u' p q =
       let a = around_at at s e in
       let d : Origin = get_or s.origins index (Origin_at s.origins) in
@@ -153,7 +185,7 @@ module _ (sites : List PlainSite) (owners : List ℕ) (u : UseCells) (v : PlainU
       let less : length (remove s.origins index) + 1 ≡ length s.origins = omega (arith, length-append (take index s.origins) (drop (suc index) s.origins), front, length-drop (suc index) s.origins) in
       let ch = a.changed t refl refl (omega (arith, less, a.fits)) in
       let whole : s.origins ≡ take index s.origins ++ d ∷ drop (suc index) s.origins =
-          sym (take-append-drop index s.origins) ∙ ap (λ r. take index s.origins ++ r) (drop_more s.origins index (Origin_at s.origins) lt ∙ ap (λ k. d ∷ drop k s.origins) (omega arith)) in
+          sym (take-append-drop index s.origins) ∙ ap (λ r. take index s.origins ++ r) (drop_more s.origins index (Origin_at s.origins) lt ∙ ap (λ k. d ∷ drop k s.origins) (let z : index + 1 ≡ suc index = omega arith in z)) in
       let f : Origin → Option Use = λ o. Some (use_in s.home o) in
       let pad : List (Option Use) = replicate (s.room - length s.origins) None in
       let split : cells_of sites ≡ (a.before ++ held s.home (take index s.origins)) ++ f d ∷ (held s.home (drop (suc index) s.origins) ++ (pad ++ a.after)) =
@@ -176,6 +208,7 @@ module _ (sites : List PlainSite) (owners : List ℕ) (u : UseCells) (v : PlainU
         cells = ap (λ (r : UseCells). r.cells) q ∙ ap (closed (s.cell + index) n) (is.cells ∙ split) ∙ gap ∙ join ∙ ap cells_of (sym p);
         names = ap (λ (r : UseCells). r.names) q ∙ is.names;
         lists = ap (map list_seen) p ∙ at_of sites at s t (without index) e refl ∙ ap (at_with at (without index)) is.lists;
+        room = is.room;
       }
     where
       Origin_at : List Origin → Origin
@@ -186,7 +219,7 @@ module _ (sites : List PlainSite) (owners : List ℕ) (u : UseCells) (v : PlainU
   pub cleared_is : (at : ℕ) (s : PlainSite) → slice_get sites at ≡ Some s
       → (n : ℕ) → n ≡ length s.origins
       → (sites' : List PlainSite) (u' : UseCells) → sites' ≡ set sites at (record s { origins = [] }) → u' ≡ with_written u s.cell (replicate n None)
-      → Stored sites' owners u' (record { names = v.names; lists = at_with at emptied v.lists })
+      → Stored sites' owners u' (record v { lists = at_with at emptied v.lists })
   cleared_is at s e n m sites' u' p q =
       let a = around_at at s e in
       let t : PlainSite = record s { origins = [] } in
@@ -207,4 +240,5 @@ module _ (sites : List PlainSite) (owners : List ℕ) (u : UseCells) (v : PlainU
             ∙ sym ch.cells ∙ ap cells_of (sym p);
         names = ap (λ (r : UseCells). r.names) q ∙ is.names;
         lists = ap (map list_seen) p ∙ at_of sites at s t emptied e refl ∙ ap (at_with at emptied) is.lists;
+        room = is.room;
       }

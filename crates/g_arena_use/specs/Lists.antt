@@ -1,6 +1,6 @@
 -- Lists of origins as contracts see them: the inputs of a node or the results of a region, with the place of the region
 -- where they stand.
-use Rattle.std.specs.Prelude.{◌≡◌, ℕ, ◌+◌, ◌&&◌, Bool, true, false, if◌then◌else◌, List, [], ◌∷◌, map, slice_index_or}
+use Rattle.std.specs.Prelude.{◌≡◌, ℕ, ◌+◌, ◌&&◌, Bool, true, false, if◌then◌else◌, List, [], ◌∷◌, length, map, slice_index_or}
 use Rattle.std.specs.List.{remove}
 use Rattle.g_graph.specs.declared.op.Origin.{Origin}
 use Rattle.g_graph.specs.Scope.{same_origin}
@@ -16,10 +16,18 @@ pub record PlainList : Type 0 where
   pub home : Place
   pub origins : List Origin
 
--- the uses that can be, and the lists
+-- the uses that can be, the lists, and how many uses there were at the start
 pub record PlainUses : Type 0 where
   pub names : List Use
   pub lists : List PlainList
+  pub room : ℕ
+
+abbrev pub origins_in : List PlainList → ℕ
+origins_in [] = 0
+origins_in (l ∷ ls) = length l.origins + origins_in ls
+
+abbrev pub made_of : List Use → List PlainList → PlainUses
+made_of names ls = record { names = names; lists = ls; room = origins_in ls }
 
 abbrev pub no_list : PlainList
 no_list = record { home = body_place; origins = [] }

@@ -1,6 +1,6 @@
 //! Lists of origins with an index of their uses.
 
-ghost use Rattle.std.specs.Prelude.{◌≡◌, ◌<◌, ℕ, IfOk, OnOk, false, [], ◌∷◌, ◌++◌, length, map, replicate, slice_set};
+ghost use Rattle.std.specs.Prelude.{◌≡◌, ◌<◌, ◌≤◌, ℕ, IfOk, OnOk, false, [], ◌∷◌, ◌++◌, length, map, replicate, slice_set};
 ghost use Rattle.std.specs.List.{remove};
 ghost use Rattle.g_graph.specs.declared.op.Origin.TheVariants.{Arg, Out};
 ghost use Rattle.g_graph.specs.Scope.{same_origin};
@@ -8,6 +8,7 @@ ghost use Rattle.g_arena_def.specs.Edits.{at_with, output_less, argument_less};
 ghost use Rattle.g_arena_use.specs.UseCells.{IsNamed};
 ghost use Rattle.g_arena_use.specs.Lists.{
   AllNamed,
+  made_of,
   origins_at,
   use_in,
   uses_of,
@@ -91,7 +92,7 @@ impl UseLists {
     /// These lists, whose uses are to be among these names.
     pub fn new(alloc: Global, names: UseNames, lists: Vec<OriginList>) -> Result<UseLists, NoMemory>
         requires { AllNamed names lists.items }
-        ensures { IfOk result (λ made. made ≡ record { names = names; lists = lists.items }) }
+        ensures { IfOk result (λ made. made ≡ made_of names lists.items) }
     {
         let mut sites = Vec::new(alloc);
         let mut owners = Vec::new(alloc);
@@ -123,7 +124,8 @@ impl UseLists {
 
     /// How often a use stands in the lists.
     pub fn count(&self, used: Use) -> usize
-        ensures { result ≡ uses_of used self.now.lists }
+        ensures value { result ≡ uses_of used self.now.lists }
+        ensures most { result ≤ self.now.room }
     {
         self.uses.count(used)
     }
@@ -131,7 +133,7 @@ impl UseLists {
     /// The first of these uses, if there is one, comes from another origin.
     pub fn move_first(&mut self, used: Use, to: Origin)
         requires { IsNamed (use_in used.home to) self.old.names }
-        ensures { self.new ≡ record { names = self.old.names; lists = use_moved used to self.old.lists } }
+        ensures { self.new ≡ record self.old { lists = use_moved used to self.old.lists } }
     {
         let Some(cell) = self.uses.first(used) else {
             return;
@@ -152,10 +154,7 @@ impl UseLists {
     fn move_all(&mut self, used: Use, to: Origin)
         requires named { IsNamed (use_in used.home to) self.old.names }
         requires other { same_origin used.of to ≡ false }
-        ensures { self.new ≡ record {
-          names = self.old.names;
-          lists = all_renamed used.home (moved used.of to) self.old.lists;
-        } }
+        ensures { self.new ≡ record self.old { lists = all_renamed used.home (moved used.of to) self.old.lists } }
     {
         while self.count(used) > 0 {
             self.move_first(used, to);
@@ -167,10 +166,7 @@ impl UseLists {
     pub fn follow_output(&mut self, home: Place, node: u32, port: u32, count: u32)
         requires there { port < count }
         requires named { (q : ℕ) → q < count → IsNamed (use_in home (Out node q)) self.old.names }
-        ensures { self.new ≡ record {
-          names = self.old.names;
-          lists = all_renamed home (output_less node port count) self.old.lists;
-        } }
+        ensures { self.new ≡ record self.old { lists = all_renamed home (output_less node port count) self.old.lists } }
     {
         for later in port + 1..count {
             let of = Origin::Out { node, port: later };
@@ -187,10 +183,7 @@ impl UseLists {
     pub fn follow_argument(&mut self, home: Place, index: u32, count: u32)
         requires there { index < count }
         requires named { (q : ℕ) → q < count → IsNamed (use_in home (Arg q)) self.old.names }
-        ensures { self.new ≡ record {
-          names = self.old.names;
-          lists = all_renamed home (argument_less index count) self.old.lists;
-        } }
+        ensures { self.new ≡ record self.old { lists = all_renamed home (argument_less index count) self.old.lists } }
     {
         for later in index + 1..count {
             let of = Origin::Arg(later);
@@ -203,10 +196,7 @@ impl UseLists {
     pub fn remove(&mut self, at: usize, index: usize)
         requires list_in { at < length self.old.lists }
         requires there { index < length (origins_at self.old.lists at) }
-        ensures { self.new ≡ record {
-          names = self.old.names;
-          lists = at_with at (without index) self.old.lists;
-        } }
+        ensures { self.new ≡ record self.old { lists = at_with at (without index) self.old.lists } }
     {
         let first = self.sites[at].cell;
         let count = take_origin(&mut self.sites[at], index);
@@ -216,10 +206,7 @@ impl UseLists {
     /// All origins go from a list.
     pub fn clear(&mut self, at: usize)
         requires { at < length self.old.lists }
-        ensures { self.new ≡ record {
-          names = self.old.names;
-          lists = at_with at emptied self.old.lists;
-        } }
+        ensures { self.new ≡ record self.old { lists = at_with at emptied self.old.lists } }
     {
         let first = self.sites[at].cell;
         let count = take_origins(&mut self.sites[at]);
@@ -282,7 +269,7 @@ fn add_site(
     let cell = owners.len();
     let room = origins.len();
     let at = sites.len();
-    for _cell in 0..room {
+    for cell_ in 0..room {
         owners.push(at)?;
     }
     sites.push(Site {
