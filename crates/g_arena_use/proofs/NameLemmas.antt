@@ -1,19 +1,22 @@
 -- Uses by their numbers: what cells hold is told by the numbers as by the uses.
 use Rattle.std.proofs.Common.{◌≡◌, ◌≢◌, ℕ, zero, suc, ◌+◌, ◌<◌, Bool, true, false, ◌&&◌, ◌||◌, eqb, cond, Option, Some, None, option_map, List, [], ◌∷◌, ◌++◌, length, map, replicate, get_or, set, refl, ap, sym, ◌∙◌, subst, arith, true≢false}
 use Rattle.std.specs.Prelude.{slice_get}
-use Rattle.std.specs.List.{list_any}
+use Rattle.std.specs.List.{list_any, position, position_from}
+use Rattle.std.proofs.lemmas.Iterator.Adapters.{position_from-zero}
 use Rattle.std.proofs.lemmas.Bool.{eqb-true, eqb-false, eq-eqb, ne_eqb, or_parts, or_cases, or_left, or_right, or_from, false_from_ne_true}
 use Rattle.std.proofs.lemmas.List.{length-map, length-set, get_or-set_same, get_or-set_other}
 use Rattle.std.proofs.Math.ListN.{get_or-map}
 use Rattle.std.proofs.lemmas.Option.{same_Some}
 use Rattle.cell_lists.specs.Keys.{Keys, no_keys, is_key, key_at, with_key, with_moved as keys_moved, count_of as key_count, first_of as key_first}
 use Rattle.g_graph.specs.declared.op.Origin.{Origin}
+use Rattle.g_graph.specs.declared.op.Origin.TheVariants.{Arg, Out}
 use Rattle.g_graph.specs.Scope.{same_origin}
 use Rattle.g_graph.proofs.lemmas.Indexes.{same_origin_self}
 use Rattle.g_graph.proofs.lemmas.Moved.{same_origin_true}
 use Rattle.g_arena_def.specs.declared.place.Place.{Place}
 use Rattle.g_arena_def.specs.Flat.{same_node, same_place}
 use Rattle.g_arena_use.specs.declared.use_index.Use.{Use}
+use Rattle.g_arena_use.specs.contracts.use_index.UsePartialEq.TheImpl.{eq-value}
 use Rattle.g_arena_use.specs.UseCells.{UseCells, same_use, is_named, with_name, number_of, no_uses, is_use, count_of, first_of, cell_at, with_use, with_moved}
 use Rattle.g_arena_use.specs.Named.{AreOnce, name_of, uses_named, AreNamed}
 
@@ -283,13 +286,13 @@ module _ (names : List Use) (s : Keys) (v : UseCells) (held : AreHeld names s v)
       by_test b j false q e = by_other b j (eqb b d) refl (sym (get_or-set_other (set s.cells d (key_at s c)) c b None None (eqb-false b c q)) ∙ e)
 
   pub count_held : (u : Use) (k n : ℕ) → Some k ≡ number_of u names → n ≡ key_count k s.cells → n ≡ count_of u v.cells
-    count_held u k n e h = h ∙ counts_same u names k s.cells held.is.once (sym e) (λ c j q. held.is.within c j q) ∙ ap (count_of u) cells_same
+  count_held u k n e h = h ∙ counts_same u names k s.cells held.is.once (sym e) (λ c j q. held.is.within c j q) ∙ ap (count_of u) cells_same
 
   pub count_not : (u : Use) → None ≡ number_of u names → 0 ≡ count_of u v.cells
   count_not u e = counts_none u names s.cells (named_none u names (sym e)) ∙ ap (count_of u) cells_same
 
   pub first_held : (u : Use) (k : ℕ) (o : Option ℕ) → Some k ≡ number_of u names → o ≡ key_first k s.cells → o ≡ first_of u v.cells
-    first_held u k o e h = h ∙ firsts_same u names k s.cells held.is.once (sym e) (λ c j q. held.is.within c j q) ∙ ap (first_of u) cells_same
+  first_held u k o e h = h ∙ firsts_same u names k s.cells held.is.once (sym e) (λ c j q. held.is.within c j q) ∙ ap (first_of u) cells_same
 
   pub first_not : (u : Use) → None ≡ number_of u names → None ≡ first_of u v.cells
   first_not u e = firsts_none u names s.cells (named_none u names (sym e)) ∙ ap (first_of u) cells_same
@@ -331,3 +334,51 @@ new_held names s n m d e f = record {
   };
   seen = λ i. record { names = names; cells = (ap (λ (r : Keys). map (name_of names) r.cells) f ∙ none-held names m) i };
 }
+
+-- a use is another where the code finds them equal
+pub same_test : (u v : Use) → eq-value.it u v ≡ same_use u v
+same_test u v = by u.home.node v.home.node u.home.region v.home.region u.of v.of
+  where
+    by : (o p : Option ℕ) (r s : ℕ) (a b : Origin)
+        → eq-value.it (record { home = record { node = o; region = r }; of = a }) (record { home = record { node = p; region = s }; of = b }) ≡ ((same_node o p && eqb r s) && same_origin a b)
+    by None None r s (Arg j) (Arg k) = refl
+    by None None r s (Arg j) (Out m q) = refl
+    by None None r s (Out n j) (Arg k) = refl
+    by None None r s (Out n j) (Out m q) = refl
+    by None (Some y) r s (Arg j) (Arg k) = refl
+    by None (Some y) r s (Arg j) (Out m q) = refl
+    by None (Some y) r s (Out n j) (Arg k) = refl
+    by None (Some y) r s (Out n j) (Out m q) = refl
+    by (Some x) None r s (Arg j) (Arg k) = refl
+    by (Some x) None r s (Arg j) (Out m q) = refl
+    by (Some x) None r s (Out n j) (Arg k) = refl
+    by (Some x) None r s (Out n j) (Out m q) = refl
+    by (Some x) (Some y) r s (Arg j) (Arg k) = refl
+    by (Some x) (Some y) r s (Arg j) (Out m q) = refl
+    by (Some x) (Some y) r s (Out n j) (Arg k) = refl
+    by (Some x) (Some y) r s (Out n j) (Out m q) = refl
+
+add_zero : (o : Option ℕ) → option_map (λ n. n + 0) o ≡ o
+add_zero None = refl
+add_zero (Some n) = ap Some (omega arith)
+
+add_more : (i : ℕ) (o : Option ℕ) → option_map (λ n. n + (i + 1)) o ≡ option_map (λ n. n + i) (option_map suc o)
+add_more i None = refl
+add_more i (Some n) = ap Some (omega arith)
+
+number_from : (u : Use) (i : ℕ) (vs : List Use) → position_from (eq-value.it u) i vs ≡ option_map (λ n. n + i) (number_of u vs)
+number_from u i [] = refl
+number_from u i (v ∷ vs) =
+    ap (λ b. cond b (Some i) (position_from (eq-value.it u) (i + 1) vs)) (same_test u v) ∙ by_test (same_use u v) (number_from u (i + 1) vs)
+  where
+    by_test : (t : Bool) → position_from (eq-value.it u) (i + 1) vs ≡ option_map (λ n. n + (i + 1)) (number_of u vs)
+        → cond t (Some i) (position_from (eq-value.it u) (i + 1) vs) ≡ option_map (λ n. n + i) (cond t (Some 0) (option_map suc (number_of u vs)))
+    by_test true ih = ap Some (omega arith)
+    by_test false ih = ih ∙ add_more i (number_of u vs)
+
+pub position_is : (u : Use) (vs : List Use) → position (eq-value.it u) vs ≡ number_of u vs
+position_is u vs = position_from-zero (eq-value.it u) vs ∙ number_from u 0 vs ∙ add_zero (number_of u vs)
+
+pub any_is : (u : Use) (vs : List Use) → list_any (eq-value.it u) vs ≡ is_named u vs
+any_is u [] = refl
+any_is u (v ∷ vs) = let h = same_test u v in let r = any_is u vs in λ i. h i || r i
