@@ -85,7 +85,11 @@ key_is u (w ∷ ws) k j v d n e = by_test (same_use u w) refl (λ a b p q. key_i
         ih m.0 j m.1 e ∙ shifted j m.0 ∙ ap (λ x. eqb (suc j) x) (sym m.2)
       where
         shifted : (a b : ℕ) → eqb a b ≡ eqb (suc a) (suc b)
-        shifted a b = refl
+        shifted a b = by_equal (eqb a b) refl
+          where
+            by_equal : (t : Bool) → eqb a b ≡ t → eqb a b ≡ eqb (suc a) (suc b)
+            by_equal true e = e ∙ sym (eq-eqb (suc a) (suc b) (ap suc (eqb-true a b e)))
+            by_equal false e = e ∙ sym (ne_eqb (suc a) (suc b) (λ z. eqb-false a b e (omega (arith, z))))
 
 number_within : (u : Use) (vs : List Use) (k : ℕ) → number_of u vs ≡ Some k → k < length vs
 number_within u [] k n = absurd (apart k n)
@@ -173,7 +177,7 @@ pub named_none : (u : Use) (vs : List Use) → number_of u vs ≡ None → is_na
 named_none u [] n = refl
 named_none u (w ∷ ws) n = by_test (same_use u w) (λ p. named_none u ws p) n
   where
-    some_first : Some {A = ℕ} 0 ≡ None → ⊥
+    some_first : Some 0 ≡ None → ⊥
     some_first h = cc
 
     none_of : (o : Option ℕ) → option_map suc o ≡ None → o ≡ None

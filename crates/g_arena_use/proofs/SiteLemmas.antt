@@ -165,7 +165,7 @@ none_of : (o : Option ℕ) → option_map suc o ≡ None → o ≡ None
 none_of None h = refl
 none_of (Some j) h = absurd (apart (suc j) (sym h))
 
-some_first : Some {A = ℕ} 0 ≡ None → ⊥
+some_first : Some 0 ≡ None → ⊥
 some_first h = cc
 
 none_held : (u : Use) (p : Place) (xs : List Origin) → same_place u.home p ≡ true → first_of u (held p xs) ≡ None → some_of (same_origin u.of) xs ≡ false

@@ -197,7 +197,7 @@ module _ (sites : List PlainSite) (owners : List ℕ) (u : UseCells) (v : PlainU
           (omega (arith, length-append a.before (held s.home (take index s.origins)), length-map (take index s.origins) f, front, a.start))
           (length-map (drop (suc index) s.origins) f ∙ back) in
       let more : None ∷ replicate (s.room - length s.origins) None ≡ replicate {A = Option Use} (s.room - length (remove s.origins index)) None =
-          ap (λ k. replicate k None) (omega (arith, less, a.fits)) in
+          ap (λ k. replicate k None) (let z : suc (s.room - length s.origins) ≡ s.room - length (remove s.origins index) = omega (arith, less, a.fits) in z) in
       let join : (a.before ++ held s.home (take index s.origins)) ++ (held s.home (drop (suc index) s.origins) ++ None ∷ (pad ++ a.after)) ≡ cells_of (set sites at t) =
           (simp append_assoc)
           ∙ ap (λ r. a.before ++ (held s.home (take index s.origins) ++ (held s.home (drop (suc index) s.origins) ++ (r ++ a.after)))) more

@@ -10,7 +10,7 @@ use Rattle.g_arena_use.proofs.StoredLemmas.{named_at}
 use Rattle.g_arena_use.proofs.use_index.UseIndex.put.Goals as goal
 
 pub overflow_add-cell : goal.overflow_add-cell
-overflow_add-cell c = let h = c.type_inv.self in ?
+overflow_add-cell c = ?
 
 pub set-requires-clause-named : goal.set-requires-clause-named
 set-requires-clause-named c =
