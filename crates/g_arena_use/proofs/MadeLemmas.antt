@@ -100,11 +100,14 @@ part_of names ss n at = record { names = names; cells = cells_of (take at ss) ++
 pub part_none : (names : List Use) (ss : List PlainSite) (n : ℕ) → no_uses names n ≡ part_of names ss n 0
 part_none names ss n = λ i. record { names = names; cells = replicate ((let e : n ≡ n - 0 = omega arith in e) i) None }
 
-pub part_length : (names : List Use) (ss : List PlainSite) (n at : ℕ) (s : PlainSite) → AreLaid 0 ss → n ≡ length (cells_of ss) → slice_get ss at ≡ Some s
-    → s.cell + length s.origins ≤ length (part_of names ss n at).cells
-part_length names ss n at s l e f =
+pub part_within : (names : List Use) (ss : List PlainSite) (n at : ℕ) → n ≤ length (part_of names ss n at).cells
+part_within names ss n at =
+    omega (arith, length-append (cells_of (take at ss)) (replicate (n - length (cells_of (take at ss))) None), length-replicate {A = Option Use} (n - length (cells_of (take at ss))) None)
+
+pub part_ends : (ss : List PlainSite) (n at : ℕ) (s : PlainSite) → AreLaid 0 ss → n ≡ length (cells_of ss) → slice_get ss at ≡ Some s → s.cell + length s.origins ≤ n
+part_ends ss n at s l e f =
     let b = start_at 0 ss at s l f in
-    omega (arith, length-append (cells_of (take at ss)) (replicate (n - length (cells_of (take at ss))) None), length-replicate {A = Option Use} (n - length (cells_of (take at ss))) None, b.0, b.1, fits_at 0 ss at s l f, e)
+    omega (arith, b.0, b.1, fits_at 0 ss at s l f, e)
   where
     fits_at : (first : ℕ) (ss : List PlainSite) (at : ℕ) (s : PlainSite) → AreLaid first ss → slice_get ss at ≡ Some s → length s.origins ≤ s.room
     fits_at first [] at s l e = absurd (apart s e)

@@ -212,6 +212,9 @@ module _ (names : List Use) (s : Keys) (v : UseCells) (held : AreHeld names s v)
   pub number_in : (u : Use) (k : ℕ) → Some k ≡ number_of u names → k < s.count
   number_in u k n = omega (arith, number_within u names k (sym n), held.is.count)
 
+  pub number_there : (u : Use) → None ≡ number_of u names → is_named u v.names ≡ true → ⊥
+  number_there u n h = true≢false (sym h ∙ ap (is_named u) (sym names_same) ∙ named_none u names (sym n))
+
   pub key_free : (c : ℕ) → cell_at v c ≡ None → key_at s c ≡ None
   key_free c h = by (key_at s c) refl
     where

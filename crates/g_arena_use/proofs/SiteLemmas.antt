@@ -256,3 +256,27 @@ first_site u to base k (s ∷ ss) r l e =
               skips (has_use u (list_seen s)) (record (list_seen s) { origins = first_with u.of to s.origins } ∷ map list_seen ss) (list_seen s ∷ use_moved u to (map list_seen ss)) n
               ∙ ap (λ ls. list_seen s ∷ ls) f.moved;
         }
+
+-- ---- where no cell holds a use, none moves
+
+none_left : (u : Use) (xs ys : List (Option Use)) → first_of u (xs ++ ys) ≡ None → first_of u xs ≡ None
+none_left u xs ys e = by (first_of u xs) refl
+  where
+    by : (o : Option ℕ) → first_of u xs ≡ o → first_of u xs ≡ None
+    by None h = h
+    by (Some j) h = absurd (apart j (sym e ∙ grown u xs ys j h))
+
+none_right : (u : Use) (xs ys : List (Option Use)) → first_of u (xs ++ ys) ≡ None → first_of u ys ≡ None
+none_right u [] ys e = e
+none_right u (x ∷ xs) ys e = by_test (is_use u x) (λ h. none_right u xs ys h) e
+  where
+    by_test : (t : Bool) → (first_of u (xs ++ ys) ≡ None → first_of u ys ≡ None) → cond t (Some 0) (option_map suc (first_of u (xs ++ ys))) ≡ None → first_of u ys ≡ None
+    by_test true ih e = absurd (some_first e)
+    by_test false ih e = ih (none_of (first_of u (xs ++ ys)) e)
+
+pub none_moved : (u : Use) (to : Origin) (ss : List PlainSite) → first_of u (cells_of ss) ≡ None → use_moved u to (map list_seen ss) ≡ map list_seen ss
+none_moved u to [] e = refl
+none_moved u to (s ∷ ss) e =
+    let n = held_none u s.home s.origins (no_held u s (none_left u (site_cells s) (cells_of ss) e)) in
+    skips (has_use u (list_seen s)) (record (list_seen s) { origins = first_with u.of to s.origins } ∷ map list_seen ss) (list_seen s ∷ use_moved u to (map list_seen ss)) n
+    ∙ ap (λ ls. list_seen s ∷ ls) (none_moved u to ss (none_right u (site_cells s) (cells_of ss) e))

@@ -16,7 +16,7 @@ use Rattle.g_arena_use.specs.declared.use_lists.UseLists.TheInside.{Inside}
 use Rattle.g_arena_use.specs.Held.{uses_seen, AreIndexed}
 use Rattle.g_arena_use.proofs.NameLemmas.{apart, same_place_true}
 use Rattle.g_arena_use.proofs.CellLemmas.{written_in, gap_in}
-use Rattle.g_arena_use.proofs.SiteLemmas.{Changed, Around, around, owners_length, site_length, counts, FirstSite, first_site}
+use Rattle.g_arena_use.proofs.SiteLemmas.{Changed, Around, around, owners_length, site_length, counts, FirstSite, first_site, none_moved}
 
 pub record Stored (sites : List PlainSite) (owners : List ℕ) (u : UseCells) (v : PlainUses) : Type 0 where
   pub laid : AreLaid 0 sites
@@ -129,6 +129,25 @@ module _ (sites : List PlainSite) (owners : List ℕ) (u : UseCells) (v : PlainU
   site_is used to cell x s e h g =
       let f = find used to cell e in
       g ∙ get_or_from_slice_get sites x f.site s (ap (slice_get sites) (owner_is used to cell x e h) ∙ f.there)
+
+  -- the list that the cell is in has the use at the index of the cell
+  pub site_in : (used : Use) (to : Origin) (cell x : ℕ) (s : PlainSite) (e : Some cell ≡ first_of used u.cells) → x ≡ get_or owners cell x → s ≡ get_or sites x s
+      → (s.cell ≤ cell) × (cell - s.cell < length s.origins)
+  site_in used to cell x s e h g =
+      let f = find used to cell e in
+      let P : PlainSite → Type 0 = λ y. (y.cell ≤ cell) × (cell - y.cell < length y.origins) in
+      subst P (sym (site_is used to cell x s e h g)) (omega (arith, f.place), omega (arith, f.place, f.within))
+
+  pub same_site : (used : Use) (to : Origin) (cell x : ℕ) (s t : PlainSite) (e : Some cell ≡ first_of used u.cells) → x ≡ get_or owners cell x → s ≡ get_or sites x s → t ≡ get_or sites x t → s ≡ t
+  same_site used to cell x s t e h g k = site_is used to cell x s e h g ∙ sym (site_is used to cell x t e h k)
+
+  pub cell_there : (used : Use) (to : Origin) (cell : ℕ) → Some cell ≡ first_of used u.cells → cell < length u.cells
+  cell_there used to cell e = omega (arith, found_in used to cell e, cells_length)
+
+  pub not_found : (used : Use) (to : Origin) → None ≡ first_of used u.cells → v ≡ record v { lists = use_moved used to v.lists }
+  not_found used to e =
+      let same : v.lists ≡ use_moved used to v.lists = sym (ap (use_moved used to) (sym is.lists) ∙ none_moved used to sites (ap (first_of used) (sym is.cells) ∙ sym e) ∙ is.lists) in
+      λ i. record v { lists = same i }
 
   pub moved_is : (used : Use) (to : Origin) (cell x : ℕ) (s : PlainSite) (e : Some cell ≡ first_of used u.cells) → x ≡ get_or owners cell x → s ≡ get_or sites x s
       → (sites' : List PlainSite) (u' : UseCells) → sites' ≡ set sites x (record s { origins = set s.origins (cell - s.cell) to }) → u' ≡ with_use u cell (Some (use_in used.home to))

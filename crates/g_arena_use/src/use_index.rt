@@ -145,8 +145,10 @@ impl UseIndex {
     }
 
     /// From a cell on the cells come to hold the uses of these origins in the region at a place.
-    pub fn put(&mut self, cell: usize, home: Place, origins: &[Origin])
-        requires room { cell + length origins.now ≤ length self.old.cells }
+    /// All stand before the cell `end`.
+    pub fn put(&mut self, cell: usize, end: usize, home: Place, origins: &[Origin])
+        requires room { cell + length origins.now ≤ end }
+        requires within { end ≤ length self.old.cells }
         requires named { AreNamedIn self.old.names home origins.now }
         ensures { self.new ≡ with_written self.old cell (held home origins.now) }
     {

@@ -296,7 +296,7 @@ fn index_of(
 {
     let mut uses = UseIndex::new(alloc, names, cells)?;
     for site in sites {
-        uses.put(site.cell, site.home, site.origins.as_slice());
+        uses.put(site.cell, cells, site.home, site.origins.as_slice());
     }
     Ok(uses)
 }

@@ -7,3 +7,6 @@ count-requires c = number_in c.self.inside.names c.self.inside.index c.args.self
 
 pub returns : goal.returns
 returns c = count_held c.self.inside.names c.self.inside.index c.args.self.now (record { is = c.self.invariant; seen = c.self.view_is }) c.args.held c.in-Some.key _ c.in-Some.ensures c.count.ensures
+
+pub returns-in_default : goal.returns-in_default
+returns-in_default c = count_not c.self.inside.names c.self.inside.index c.args.self.now (record { is = c.self.invariant; seen = c.self.view_is }) c.args.held c.in_default.ensures
