@@ -3,7 +3,7 @@ use Rattle.std.proofs.Common.{◌≡◌, ℕ, zero, suc, ◌+◌, ◌-◌, ◌<�
 use Rattle.std.specs.Prelude.{slice_get}
 use Rattle.std.specs.List.{remove}
 use Rattle.std.proofs.lemmas.List.{length-map, length-replicate, length-take-le, map-set, map-append, set-append_left, set-append_right, get_or_default, take-append-drop, drop_more, replicate-append-replicate, append-nil, take_all, get_or-map}
-use Rattle.std.proofs.lemmas.Option.{get_or_from_slice_get, slice_get-get_or}
+use Rattle.std.proofs.lemmas.Option.{get_or_from_slice_get, slice_get-get_or, same_Some}
 use Rattle.g_graph.specs.declared.op.Origin.{Origin}
 use Rattle.g_graph.specs.declared.op.Origin.TheVariants.{Arg}
 use Rattle.g_arena_def.specs.declared.place.Place.{Place}
@@ -78,6 +78,12 @@ module _ (sites : List PlainSite) (owners : List ℕ) (u : UseCells) (v : PlainU
       ap (λ (s : PlainSite). s.origins) e
       ∙ ap (λ (l : PlainList). l.origins) (sym (get_or-map list_seen sites at x no_list (omega (arith, lt, lists_length))))
       ∙ ap (λ ls. origins_at ls at) is.lists
+
+  pub read_same : (at : ℕ) (x y : PlainSite) → at < length v.lists → x ≡ get_or sites at x → y ≡ get_or sites at y → x ≡ y
+  read_same at x y lt e h = same_Some x y (sym (read at x lt e) ∙ read at y lt h)
+
+  pub origin_in : (at index : ℕ) (x : PlainSite) → at < length v.lists → x ≡ get_or sites at x → index < length (origins_at v.lists at) → index < length x.origins
+  origin_in at index x lt e there = omega (arith, there, ap length (list_is at x lt e))
 
   pub count_is : (used : Use) (n : ℕ) → n ≡ count_of used u.cells → n ≡ uses_of used v.lists
   count_is used n e = e ∙ ap (count_of used) is.cells ∙ counts used sites ∙ ap (uses_of used) is.lists
