@@ -6,11 +6,12 @@ use Rattle.std.proofs.lemmas.Option.{get_or_from_slice_get, same_Some}
 use Rattle.g_graph.specs.declared.op.Origin.{Origin}
 use Rattle.g_arena_use.specs.declared.use_index.Use.{Use}
 use Rattle.g_arena_use.specs.UseCells.{UseCells, no_uses, with_written}
-use Rattle.g_arena_use.specs.Lists.{PlainList, PlainUses, use_in, origins_in, AreNamedIn, AllNamed}
+use Rattle.g_arena_use.specs.Lists.{PlainList, PlainUses, use_in, origins_in, made_of, AreNamedIn, AllNamed}
 use Rattle.g_arena_use.specs.Sites.{PlainSite, list_seen, held, site_cells, cells_of, AreLaid, AreFull, owners_from}
 use Rattle.g_arena_use.proofs.NameLemmas.{apart}
 use Rattle.g_arena_use.proofs.CellLemmas.{written_in}
 use Rattle.g_arena_use.proofs.SiteLemmas.{site_length, owners_length}
+use Rattle.g_arena_use.proofs.StoredLemmas.{Stored}
 
 pub record Made (sites : List PlainSite) (owners : List ℕ) (lists : List PlainList) : Type 0 where
   pub laid : AreLaid 0 sites
@@ -59,6 +60,17 @@ made_room sites owners lists m = ap length m.owned ∙ total 0 sites m.full ∙ 
 
 pub made_cells : (sites : List PlainSite) (owners : List ℕ) (lists : List PlainList) → Made sites owners lists → length owners ≡ length (cells_of sites)
 made_cells sites owners lists m = ap length m.owned ∙ owners_length 0 0 sites m.laid
+
+pub made_stored : (names : List Use) (sites : List PlainSite) (owners : List ℕ) (lists : List PlainList) (u : UseCells) → Made sites owners lists → u ≡ record { names = names; cells = cells_of sites }
+    → Stored sites owners u (made_of names lists)
+made_stored names sites owners lists u m e = record {
+  laid = m.laid;
+  owned = m.owned;
+  cells = ap (λ (r : UseCells). r.cells) e;
+  names = ap (λ (r : UseCells). r.names) e;
+  lists = m.seen;
+  room = made_room sites owners lists m;
+}
 
 -- ---- the index of them
 
