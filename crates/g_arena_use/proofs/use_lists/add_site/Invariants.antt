@@ -1,3 +1,4 @@
+-- The cells that came so far are of the new list.
 use Rattle.std.proofs.Common.{◌≡◌, ◌++◌, replicate}
 use Rattle.g_arena_use.proofs.use_lists.add_site.Given as goal
 

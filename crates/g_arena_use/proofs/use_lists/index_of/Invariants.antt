@@ -1,3 +1,4 @@
+-- The lists so far are in the index.
 use Rattle.std.proofs.Common.{◌≡◌}
 use Rattle.g_arena_use.proofs.MadeLemmas.{part_of}
 use Rattle.g_arena_use.proofs.use_lists.index_of.Given as goal

@@ -1,3 +1,4 @@
+-- What the cells hold at each turn.
 use Rattle.std.proofs.Common.{◌≡◌, ◌-◌, None, replicate}
 use Rattle.g_arena_use.specs.UseCells.{with_written}
 use Rattle.g_arena_use.proofs.use_index.UseIndex.clear_all.Given as goal

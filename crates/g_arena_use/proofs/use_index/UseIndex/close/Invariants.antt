@@ -1,3 +1,4 @@
+-- What the cells hold at each turn.
 use Rattle.std.proofs.Common.{◌≡◌, ◌+◌, ◌-◌}
 use Rattle.g_arena_use.specs.UseCells.{with_closed}
 use Rattle.g_arena_use.proofs.use_index.UseIndex.close.Given as goal

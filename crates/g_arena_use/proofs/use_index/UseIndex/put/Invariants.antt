@@ -1,3 +1,4 @@
+-- What the cells hold at each turn.
 use Rattle.std.proofs.Common.{◌≡◌, take}
 use Rattle.g_arena_use.specs.UseCells.{with_written}
 use Rattle.g_arena_use.specs.Sites.{held}

@@ -1,3 +1,4 @@
+-- What is renamed so far.
 use Rattle.std.proofs.Common.{◌≡◌}
 use Rattle.g_arena_def.specs.Edits.{output_less}
 use Rattle.g_arena_use.specs.Lists.{all_renamed}

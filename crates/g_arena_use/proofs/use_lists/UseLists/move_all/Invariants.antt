@@ -1,3 +1,4 @@
+-- The renamed lists stay the same while uses move, and ever fewer are left.
 use Rattle.std.proofs.Common.{◌≡◌}
 use Rattle.g_arena_use.specs.Lists.{uses_of, all_renamed, moved}
 use Rattle.g_arena_use.proofs.use_lists.UseLists.move_all.Given as goal

@@ -1,3 +1,4 @@
+-- The lists that came so far are stored.
 use Rattle.g_arena_use.proofs.MadeLemmas.{Made}
 use Rattle.g_arena_use.proofs.use_lists.UseLists.new.Given as goal
 
