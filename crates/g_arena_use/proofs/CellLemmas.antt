@@ -37,10 +37,10 @@ gap_step {A} ps xs i from to o d lt e f =
     let longer : length ((ps ++ take i xs) ++ o ∷ []) ≡ from = omega (arith, length_push (ps ++ take i xs) o, long, e, f) in
     let longer_y : length ((ps ++ take i xs) ++ get_or xs i d ∷ []) ≡ from = omega (arith, length_push (ps ++ take i xs) (get_or xs i d), long, e, f) in
     let cells : ps ++ (take i xs ++ o ∷ drop i xs) ≡ (ps ++ take i xs) ++ o ∷ (get_or xs i d ∷ drop (i + 1) xs) =
-        ap (λ r. ps ++ (take i xs ++ o ∷ r)) (drop_more xs i d lt) ∙ sym (append_assoc ps (take i xs) (o ∷ (get_or xs i d ∷ drop (i + 1) xs))) in
+    ap (λ r. ps ++ (take i xs ++ o ∷ r)) (drop_more xs i d lt) ∙ sym (append_assoc ps (take i xs) (o ∷ (get_or xs i d ∷ drop (i + 1) xs))) in
     let read : get_or ((ps ++ take i xs) ++ o ∷ (get_or xs i d ∷ drop (i + 1) xs)) from d ≡ get_or xs i d =
-        ap (λ l. get_or l from d) (sym (append_assoc (ps ++ take i xs) (o ∷ []) (get_or xs i d ∷ drop (i + 1) xs)))
-        ∙ get_or_at ((ps ++ take i xs) ++ o ∷ []) (get_or xs i d) (drop (i + 1) xs) d from longer in
+    ap (λ l. get_or l from d) (sym (append_assoc (ps ++ take i xs) (o ∷ []) (get_or xs i d ∷ drop (i + 1) xs)))
+    ∙ get_or_at ((ps ++ take i xs) ++ o ∷ []) (get_or xs i d) (drop (i + 1) xs) d from longer in
     ap (λ l. set (set l to (get_or l from d)) from o) cells
     ∙ ap (λ z. set (set (front ++ o ∷ (y ∷ rest)) to z) from o) read
     ∙ ap (λ l. set l from o) (set_at front o (y ∷ rest) y to long)
@@ -54,7 +54,7 @@ pub gap_in : {A : Type 0} (ps ms ss : List A) (y o : A) (c n : ℕ) → length p
     → take c (ps ++ y ∷ (ms ++ ss)) ++ (take n (drop (c + 1) (ps ++ y ∷ (ms ++ ss))) ++ o ∷ drop n (drop (c + 1) (ps ++ y ∷ (ms ++ ss)))) ≡ ps ++ (ms ++ o ∷ ss)
 gap_in ps ms ss y o c n e f =
     let behind : drop (c + 1) (ps ++ y ∷ (ms ++ ss)) ≡ ms ++ ss =
-        ap (drop (c + 1)) (sym (append_assoc ps (y ∷ []) (ms ++ ss))) ∙ drop_at (ps ++ y ∷ []) (ms ++ ss) (c + 1) (omega (arith, length_push ps y, e)) in
+    ap (drop (c + 1)) (sym (append_assoc ps (y ∷ []) (ms ++ ss))) ∙ drop_at (ps ++ y ∷ []) (ms ++ ss) (c + 1) (omega (arith, length_push ps y, e)) in
     ap (λ l. l ++ (take n (drop (c + 1) (ps ++ y ∷ (ms ++ ss))) ++ o ∷ drop n (drop (c + 1) (ps ++ y ∷ (ms ++ ss))))) (take_at ps (y ∷ (ms ++ ss)) c e)
     ∙ ap (λ l. ps ++ (take n l ++ o ∷ drop n l)) behind
     ∙ ap (λ l. ps ++ (l ++ o ∷ drop n (ms ++ ss))) (take_at ms ss n f)

@@ -136,16 +136,19 @@ part_more names ss n at s u l h e f g =
     let room : s.room ≡ length s.origins = full_at ss at s h f in
     let hl : length (held s.home s.origins) ≡ length s.origins = length-map s.origins (λ o. Some (use_in s.home o)) in
     let parts : replicate {A = Option Use} (n - length (cells_of (take at ss))) None ≡ replicate (length s.origins) None ++ replicate (n - length (cells_of (take at ss)) - length s.origins) None =
-        sym (replicate-append-replicate (length s.origins) (n - length (cells_of (take at ss)) - length s.origins) None ∙ ap (λ m. replicate m None) (omega (arith, b.1, e, room))) in
+    sym (replicate-append-replicate (length s.origins) (n - length (cells_of (take at ss)) - length s.origins) None ∙ ap (λ m. replicate m None) (omega (arith, b.1, e, room))) in
     let site : site_cells s ≡ held s.home s.origins = ap (λ m. held s.home s.origins ++ replicate m None) (omega (arith, room)) ∙ append-nil (held s.home s.origins) in
     let more : cells_of (take (at + 1) ss) ≡ cells_of (take at ss) ++ held s.home s.origins = cells_more ss at s f ∙ ap (λ c. cells_of (take at ss) ++ c) site in
     let left : n - length (cells_of (take at ss)) - length s.origins ≡ n - length (cells_of (take (at + 1) ss)) =
-        omega (arith, ap length more, length-append (cells_of (take at ss)) (held s.home s.origins), hl) in
-    g ∙ (λ i. record { names = names; cells = (
-        ap (λ r. take s.cell (front ++ r) ++ (held s.home s.origins ++ drop (s.cell + length (held s.home s.origins)) (front ++ r))) parts
-        ∙ written_in front (replicate (length s.origins) None) (replicate (n - length (cells_of (take at ss)) - length s.origins) None) (held s.home s.origins) s.cell (omega (arith, b.0)) (length-replicate {A = Option Use} (length s.origins) None ∙ sym hl)
-        ∙ sym (append_assoc front (held s.home s.origins) (replicate (n - length (cells_of (take at ss)) - length s.origins) None))
-        ∙ (λ j. (sym more) j ++ replicate (left j) None)) i })
+    omega (arith, ap length more, length-append (cells_of (take at ss)) (held s.home s.origins), hl) in
+    g ∙ (λ i. record {
+      names = names;
+      cells = (
+          ap (λ r. take s.cell (front ++ r) ++ (held s.home s.origins ++ drop (s.cell + length (held s.home s.origins)) (front ++ r))) parts
+          ∙ written_in front (replicate (length s.origins) None) (replicate (n - length (cells_of (take at ss)) - length s.origins) None) (held s.home s.origins) s.cell (omega (arith, b.0)) (length-replicate {A = Option Use} (length s.origins) None ∙ sym hl)
+          ∙ sym (append_assoc front (held s.home s.origins) (replicate (n - length (cells_of (take at ss)) - length s.origins) None))
+          ∙ (λ j. (sym more) j ++ replicate (left j) None)) i;
+    })
 
 pub part_all : (names : List Use) (ss : List PlainSite) (n at : ℕ) → n ≡ length (cells_of ss) → length ss ≤ at → part_of names ss n at ≡ record { names = names; cells = cells_of ss }
 part_all names ss n at e le =

@@ -49,7 +49,7 @@ one_less u to (l ∷ ls) n lt = by_test (has_use u l) refl (λ h. one_less u to 
     by_test true e ih =
         let b = both_true _ _ e in
         let less : cond (same_place u.home l.home) (times u.of (first_with u.of to l.origins)) 0 + 1 ≡ cond (same_place u.home l.home) (times u.of l.origins) 0 =
-            ap (λ t. cond t (times u.of (first_with u.of to l.origins)) 0 + 1) b.0 ∙ times_moved u.of to l.origins n b.1 ∙ sym (ap (λ t. cond t (times u.of l.origins) 0) b.0) in
+        ap (λ t. cond t (times u.of (first_with u.of to l.origins)) 0 + 1) b.0 ∙ times_moved u.of to l.origins n b.1 ∙ sym (ap (λ t. cond t (times u.of l.origins) 0) b.0) in
         omega (arith, less)
     by_test false e ih = let z : times_in u l ≡ 0 = not_in u l e in let some : 0 < uses_of u ls = omega (arith, z, lt) in let h = ih some in omega (arith, z, h)
 

@@ -34,8 +34,15 @@ pub closed_length : (c i : ℕ) (xs : List (Option Use)) → c < length xs → l
 closed_length c i xs lt =
     let few : c ≤ length xs = omega arith in
     let rest : length (take i (drop (c + 1) xs) ++ drop i (drop (c + 1) xs)) ≡ length (drop (c + 1) xs) = ap length (take-append-drop i (drop (c + 1) xs)) in
-    omega (arith, length-append (take c xs) (take i (drop (c + 1) xs) ++ None ∷ drop i (drop (c + 1) xs)), length-append (take i (drop (c + 1) xs)) (None ∷ drop i (drop (c + 1) xs)),
-      length-append (take i (drop (c + 1) xs)) (drop i (drop (c + 1) xs)), rest, length-take-le c xs few, length-drop (c + 1) xs)
+    omega (
+      arith,
+      length-append (take c xs) (take i (drop (c + 1) xs) ++ None ∷ drop i (drop (c + 1) xs)),
+      length-append (take i (drop (c + 1) xs)) (None ∷ drop i (drop (c + 1) xs)),
+      length-append (take i (drop (c + 1) xs)) (drop i (drop (c + 1) xs)),
+      rest,
+      length-take-le c xs few,
+      length-drop (c + 1) xs,
+    )
 
 pub closed_none : (s t : UseCells) (c : ℕ) → c < length s.cells → t ≡ with_use s c None → t ≡ with_closed s c 0
 closed_none s t c lt e =
@@ -46,7 +53,7 @@ closed_free s t c i n e f lt =
     let few : c ≤ length t.cells = omega arith in
     let some : i ≤ length (drop (c + 1) t.cells) = omega (arith, length-drop (c + 1) t.cells) in
     let long : length (take c t.cells ++ take i (drop (c + 1) t.cells)) ≡ n =
-        omega (arith, length-append (take c t.cells) (take i (drop (c + 1) t.cells)), length-take-le c t.cells few, length-take-le i (drop (c + 1) t.cells) some, f) in
+    omega (arith, length-append (take c t.cells) (take i (drop (c + 1) t.cells)), length-take-le c t.cells few, length-take-le i (drop (c + 1) t.cells) some, f) in
     ap (λ x. cell_at x n) e
     ∙ ap (λ l. get_or l n None) (sym (append_assoc (take c t.cells) (take i (drop (c + 1) t.cells)) (None ∷ drop i (drop (c + 1) t.cells))))
     ∙ get_or_at (take c t.cells ++ take i (drop (c + 1) t.cells)) None (drop i (drop (c + 1) t.cells)) None n long

@@ -121,8 +121,8 @@ first_append u (x ∷ xs) ys r e = by_test (is_use u x) (λ a p. first_append u 
     by_test false ih r e =
         let m = one_more (first_of u (xs ++ ys)) r e in
         elim (ih m.0 m.1) [
-          inl h ↦ inl (ap (option_map suc) h ∙ ap Some (sym m.2))
-        | inr h ↦ inr (h.0, ap (option_map suc) h.1, h.2, omega (arith, h.3, m.2))
+          | inl h ↦ inl (ap (option_map suc) h ∙ ap Some (sym m.2))
+          | inr h ↦ inr (h.0, ap (option_map suc) h.1, h.2, omega (arith, h.3, m.2))
         ]
 
 first_none : (u : Use) (n : ℕ) → first_of u (replicate n None) ≡ None
@@ -214,11 +214,11 @@ pub first_site : (u : Use) (to : Origin) (base k : ℕ) (ss : List PlainSite) (r
 first_site u to base k [] r l e = absurd (apart r e)
 first_site u to base k (s ∷ ss) r l e =
     elim (first_append u (site_cells s) (cells_of ss) r e) [
-      inl h ↦ elim (first_append u (held s.home s.origins) (replicate (s.room - length s.origins) None) r h) [
-        inl g ↦ here (first_held u s.home s.origins r g)
-      | inr g ↦ absurd (apart g.0 (sym (first_none u (s.room - length s.origins)) ∙ g.2))
+      | inl h ↦ elim (first_append u (held s.home s.origins) (replicate (s.room - length s.origins) None) r h) [
+        | inl g ↦ here (first_held u s.home s.origins r g)
+        | inr g ↦ absurd (apart g.0 (sym (first_none u (s.room - length s.origins)) ∙ g.2))
       ]
-    | inr h ↦ later h.0 h.3 (held_none u s.home s.origins (no_held u s h.1)) (first_site u to (base + s.room) (suc k) ss h.0 l.2 h.2)
+      | inr h ↦ later h.0 h.3 (held_none u s.home s.origins (no_held u s h.1)) (first_site u to (base + s.room) (suc k) ss h.0 l.2 h.2)
     ]
   where
     here : FirstHeld u s.home s.origins r → FirstSite u to base k (s ∷ ss) r

@@ -167,8 +167,8 @@ module _ (sites : List PlainSite) (owners : List ℕ) (u : UseCells) (v : PlainU
       let o = owner_is used to cell x e h in
       let i = site_is used to cell x s e h g in
       let whole : sites' ≡ set sites f.at t =
-          p ∙ (λ j. set sites (o j) (record (i j) { origins = set (i j).origins (cell - (i j).cell) to }))
-          ∙ ap (λ n. set sites f.at (record f.site { origins = set f.site.origins n to })) index in
+      p ∙ (λ j. set sites (o j) (record (i j) { origins = set (i j).origins (cell - (i j).cell) to }))
+      ∙ ap (λ n. set sites f.at (record f.site { origins = set f.site.origins n to })) index in
       let ch = a.changed t refl refl (omega (arith, length-set f.site.origins f.index to, a.fits)) in
       let hl : length (held f.site.home f.site.origins) ≡ length f.site.origins = length-map f.site.origins (λ y. Some (use_in f.site.home y)) in
       let sl = site_length f.site a.fits in
@@ -177,15 +177,15 @@ module _ (sites : List PlainSite) (owners : List ℕ) (u : UseCells) (v : PlainU
       let in_site : f.index < length (site_cells f.site) = omega (arith, sl, a.fits, f.within) in
       let in_held : f.index < length (held f.site.home f.site.origins) = omega (arith, hl, f.within) in
       let one : set (site_cells f.site) f.index (Some (use_in f.site.home to)) ≡ site_cells t =
-          set-append_left (held f.site.home f.site.origins) (replicate (f.site.room - length f.site.origins) None) f.index (Some (use_in f.site.home to)) in_held
-          ∙ (λ j. (sym (map-set (λ y. Some (use_in f.site.home y)) f.site.origins f.index to)) j ++ replicate (f.site.room - (sym (length-set f.site.origins f.index to)) j) None) in
+      set-append_left (held f.site.home f.site.origins) (replicate (f.site.room - length f.site.origins) None) f.index (Some (use_in f.site.home to)) in_held
+      ∙ (λ j. (sym (map-set (λ y. Some (use_in f.site.home y)) f.site.origins f.index to)) j ++ replicate (f.site.room - (sym (length-set f.site.origins f.index to)) j) None) in
       let row : set (cells_of sites) cell (Some (use_in used.home to)) ≡ cells_of (set sites f.at t) =
-          (λ j. set (a.cells j) cell (Some (use_in (same_home j) to)))
-          ∙ set-append_right a.before (site_cells f.site ++ a.after) (length a.before) cell (Some (use_in f.site.home to)) refl (omega (arith, a.start, f.place))
-          ∙ ap (λ n. a.before ++ set (site_cells f.site ++ a.after) n (Some (use_in f.site.home to))) (omega (arith, a.start, f.place))
-          ∙ ap (λ r. a.before ++ r) (set-append_left (site_cells f.site) a.after f.index (Some (use_in f.site.home to)) in_site)
-          ∙ ap (λ r. a.before ++ (r ++ a.after)) one
-          ∙ sym ch.cells in
+      (λ j. set (a.cells j) cell (Some (use_in (same_home j) to)))
+      ∙ set-append_right a.before (site_cells f.site ++ a.after) (length a.before) cell (Some (use_in f.site.home to)) refl (omega (arith, a.start, f.place))
+      ∙ ap (λ n. a.before ++ set (site_cells f.site ++ a.after) n (Some (use_in f.site.home to))) (omega (arith, a.start, f.place))
+      ∙ ap (λ r. a.before ++ r) (set-append_left (site_cells f.site) a.after f.index (Some (use_in f.site.home to)) in_site)
+      ∙ ap (λ r. a.before ++ (r ++ a.after)) one
+      ∙ sym ch.cells in
       record {
         laid = (let P : List PlainSite → Type 0 = λ ss. AreLaid 0 ss in subst P (sym whole) ch.laid);
         owned = is.owned ∙ sym ch.owners ∙ ap (owners_from 0) (sym whole);
@@ -210,23 +210,23 @@ module _ (sites : List PlainSite) (owners : List ℕ) (u : UseCells) (v : PlainU
       let less : length (remove s.origins index) + 1 ≡ length s.origins = omega (arith, length-append (take index s.origins) (drop (suc index) s.origins), front, length-drop (suc index) s.origins) in
       let ch = a.changed t refl refl (omega (arith, less, a.fits)) in
       let whole : s.origins ≡ take index s.origins ++ d ∷ drop (suc index) s.origins =
-          sym (take-append-drop index s.origins) ∙ ap (λ r. take index s.origins ++ r) (drop_more s.origins index (Origin_at s.origins) lt ∙ ap (λ k. d ∷ drop k s.origins) (let z : index + 1 ≡ suc index = omega arith in z)) in
+      sym (take-append-drop index s.origins) ∙ ap (λ r. take index s.origins ++ r) (drop_more s.origins index (Origin_at s.origins) lt ∙ ap (λ k. d ∷ drop k s.origins) (let z : index + 1 ≡ suc index = omega arith in z)) in
       let f : Origin → Option Use = λ o. Some (use_in s.home o) in
       let pad : List (Option Use) = replicate (s.room - length s.origins) None in
       let split : cells_of sites ≡ (a.before ++ held s.home (take index s.origins)) ++ f d ∷ (held s.home (drop (suc index) s.origins) ++ (pad ++ a.after)) =
-          a.cells
-          ∙ ap (λ r. a.before ++ ((map f r ++ pad) ++ a.after)) whole
-          ∙ ap (λ r. a.before ++ ((r ++ pad) ++ a.after)) (map-append f (take index s.origins) (d ∷ drop (suc index) s.origins))
-          ∙ (simp append_assoc) in
+      a.cells
+      ∙ ap (λ r. a.before ++ ((map f r ++ pad) ++ a.after)) whole
+      ∙ ap (λ r. a.before ++ ((r ++ pad) ++ a.after)) (map-append f (take index s.origins) (d ∷ drop (suc index) s.origins))
+      ∙ (simp append_assoc) in
       let gap = gap_in (a.before ++ held s.home (take index s.origins)) (held s.home (drop (suc index) s.origins)) (pad ++ a.after) (f d) None (s.cell + index) n
-          (omega (arith, length-append a.before (held s.home (take index s.origins)), length-map (take index s.origins) f, front, a.start))
-          (length-map (drop (suc index) s.origins) f ∙ back) in
+      (omega (arith, length-append a.before (held s.home (take index s.origins)), length-map (take index s.origins) f, front, a.start))
+      (length-map (drop (suc index) s.origins) f ∙ back) in
       let more : None ∷ replicate (s.room - length s.origins) None ≡ replicate {A = Option Use} (s.room - length (remove s.origins index)) None =
-          ap (λ k. replicate k None) (let z : suc (s.room - length s.origins) ≡ s.room - length (remove s.origins index) = omega (arith, less, a.fits) in z) in
+      ap (λ k. replicate k None) (let z : suc (s.room - length s.origins) ≡ s.room - length (remove s.origins index) = omega (arith, less, a.fits) in z) in
       let join : (a.before ++ held s.home (take index s.origins)) ++ (held s.home (drop (suc index) s.origins) ++ None ∷ (pad ++ a.after)) ≡ cells_of (set sites at t) =
-          (simp append_assoc)
-          ∙ ap (λ r. a.before ++ (held s.home (take index s.origins) ++ (held s.home (drop (suc index) s.origins) ++ (r ++ a.after)))) more
-          ∙ sym (ch.cells ∙ ap (λ r. a.before ++ ((r ++ replicate (s.room - length (remove s.origins index)) None) ++ a.after)) (map-append f (take index s.origins) (drop (suc index) s.origins)) ∙ (simp append_assoc)) in
+      (simp append_assoc)
+      ∙ ap (λ r. a.before ++ (held s.home (take index s.origins) ++ (held s.home (drop (suc index) s.origins) ++ (r ++ a.after)))) more
+      ∙ sym (ch.cells ∙ ap (λ r. a.before ++ ((r ++ replicate (s.room - length (remove s.origins index)) None) ++ a.after)) (map-append f (take index s.origins) (drop (suc index) s.origins)) ∙ (simp append_assoc)) in
       record {
         laid = (let P : List PlainSite → Type 0 = λ ss. AreLaid 0 ss in subst P (sym p) ch.laid);
         owned = is.owned ∙ sym ch.owners ∙ ap (owners_from 0) (sym p);
@@ -253,7 +253,7 @@ module _ (sites : List PlainSite) (owners : List ℕ) (u : UseCells) (v : PlainU
       let pad : List (Option Use) = replicate (s.room - length s.origins) None in
       let split : cells_of sites ≡ a.before ++ (held s.home s.origins ++ (pad ++ a.after)) = a.cells ∙ (simp append_assoc) in
       let all : replicate n None ++ replicate (s.room - length s.origins) None ≡ replicate {A = Option Use} (s.room - 0) None =
-          replicate-append-replicate n (s.room - length s.origins) None ∙ ap (λ k. replicate k None) (omega (arith, m, a.fits)) in
+      replicate-append-replicate n (s.room - length s.origins) None ∙ ap (λ k. replicate k None) (omega (arith, m, a.fits)) in
       record {
         laid = (let P : List PlainSite → Type 0 = λ ss. AreLaid 0 ss in subst P (sym p) ch.laid);
         owned = is.owned ∙ sym ch.owners ∙ ap (owners_from 0) (sym p);

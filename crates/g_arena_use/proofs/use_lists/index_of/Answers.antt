@@ -29,4 +29,4 @@ loop-site-preserved c =
     let s = c.site-item.result in
     let e = slice_get-get_or c.args.sites.now c.loop-site.site-index s c.loop-site-test.true ∙ ap Some (sym c.site-item.is) in
     part_more c.args.names c.args.sites.now c.args.cells c.loop-site.site-index s c.put.new.self c.requires.laid c.requires.full c.requires.cells e
-      (c.put.ensures ∙ ap (λ u. with_written u s.cell (held s.home s.origins)) c.loop-site.invariant)
+    (c.put.ensures ∙ ap (λ u. with_written u s.cell (held s.home s.origins)) c.loop-site.invariant)

@@ -19,8 +19,8 @@ loop-k-preserved c =
     let few : c.loop-k.k ≤ length c.args.origins.now = omega arith in
     let inside : c.loop-k.k < length c.args.origins.now = omega arith in
     let at : c.args.cell + c.loop-k.k ≡ c.args.cell + length (held c.args.home (take c.loop-k.k c.args.origins.now)) =
-        omega (arith, length-map (take c.loop-k.k c.args.origins.now) (λ o. Some (use_in c.args.home o)), length-take-le c.loop-k.k c.args.origins.now few) in
+    omega (arith, length-map (take c.loop-k.k c.args.origins.now) (λ o. Some (use_in c.args.home o)), length-take-le c.loop-k.k c.args.origins.now few) in
     let room : c.args.cell + c.loop-k.k < length c.args.self.now.cells = omega (arith, c.requires.room, c.requires.within, inside) in
     written_more c.loop-k.self c.args.self.now c.set.new.self c.args.cell (c.args.cell + c.loop-k.k) (held c.args.home (take c.loop-k.k c.args.origins.now)) (Some (use_in c.args.home (get_or c.args.origins.now c.loop-k.k (Arg 0))))
-      c.loop-k.invariant at room c.set.ensures
+    c.loop-k.invariant at room c.set.ensures
     ∙ ap (with_written c.args.self.now c.args.cell) (held_more c.args.home c.args.origins.now c.loop-k.k (Arg 0) inside)

@@ -10,4 +10,4 @@ invariant_of-self-2 c =
     let ks = c.self.inside.set.keys in
     let P : List Use → Type 0 = λ us. AreOnce us in
     subst P (sym (c.in_ok-insert.ensures.keys ∙ ap (λ b. cond b c.self.inside.set.keys (c.self.inside.set.keys ++ c.args.name ∷ [])) (any_is c.args.name c.self.inside.set.keys)))
-      (once_with c.args.name c.self.inside.set.keys c.self.invariant)
+    (once_with c.args.name c.self.inside.set.keys c.self.invariant)

@@ -30,9 +30,9 @@ index_mut-requires c =
 pub set_origin-requires : goal.set_origin-requires
 set_origin-requires c =
     let at = site_in c.self.inside.sites.items c.self.inside.owners.items c.self.inside.uses c.args.self.now (stored c.self.inside c.args.self.now c.self.invariant c.self.view_is) c.args.used c.args.to c.in-Some.cell c.index-at.result.now c.index.result.now
-        c.in-Some.ensures c.index-at.ensures c.index.ensures in
+    c.in-Some.ensures c.index-at.ensures c.index.ensures in
     let same : c.index_mut.result.now ≡ c.index.result.now = same_site c.self.inside.sites.items c.self.inside.owners.items c.self.inside.uses c.args.self.now (stored c.self.inside c.args.self.now c.self.invariant c.self.view_is) c.args.used c.args.to c.in-Some.cell c.index-at.result.now c.index_mut.result.now c.index.result.now
-        c.in-Some.ensures c.index-at.ensures c.index_mut.ensures.value c.index.ensures in
+    c.in-Some.ensures c.index-at.ensures c.index_mut.ensures.value c.index.ensures in
     omega (arith, at.1, ap (λ (s : PlainSite). length s.origins) same)
 
 pub set-requires-clause-cell_in : goal.set-requires-clause-cell_in
@@ -42,17 +42,17 @@ set-requires-clause-cell_in c =
 pub invariant_of-self : goal.invariant_of-self
 invariant_of-self c =
     let same : c.index_mut.result.now ≡ c.index.result.now = same_site c.self.inside.sites.items c.self.inside.owners.items c.self.inside.uses c.args.self.now (stored c.self.inside c.args.self.now c.self.invariant c.self.view_is) c.args.used c.args.to c.in-Some.cell c.index-at.result.now c.index_mut.result.now c.index.result.now
-        c.in-Some.ensures c.index-at.ensures c.index_mut.ensures.value c.index.ensures in
+    c.in-Some.ensures c.index-at.ensures c.index_mut.ensures.value c.index.ensures in
     let site = c.set_origin.ensures ∙ ap (λ (s : PlainSite). record c.index_mut.result.now { origins = set c.index_mut.result.now.origins (c.in-Some.cell - s.cell) c.args.to }) (sym same) in
     let is = moved_is c.self.inside.sites.items c.self.inside.owners.items c.self.inside.uses c.args.self.now (stored c.self.inside c.args.self.now c.self.invariant c.self.view_is) c.args.used c.args.to c.in-Some.cell c.index-at.result.now c.index_mut.result.now
-        c.in-Some.ensures c.index-at.ensures c.index_mut.ensures.value _ _ (ap (λ (s : PlainSite). set c.self.inside.sites.items c.index-at.result.now s) site) c.set.ensures in
+    c.in-Some.ensures c.index-at.ensures c.index_mut.ensures.value _ _ (ap (λ (s : PlainSite). set c.self.inside.sites.items c.index-at.result.now s) site) c.set.ensures in
     indexed _ _ is
 
 pub returns : goal.returns
 returns c =
     let same : c.index_mut.result.now ≡ c.index.result.now = same_site c.self.inside.sites.items c.self.inside.owners.items c.self.inside.uses c.args.self.now (stored c.self.inside c.args.self.now c.self.invariant c.self.view_is) c.args.used c.args.to c.in-Some.cell c.index-at.result.now c.index_mut.result.now c.index.result.now
-        c.in-Some.ensures c.index-at.ensures c.index_mut.ensures.value c.index.ensures in
+    c.in-Some.ensures c.index-at.ensures c.index_mut.ensures.value c.index.ensures in
     let site = c.set_origin.ensures ∙ ap (λ (s : PlainSite). record c.index_mut.result.now { origins = set c.index_mut.result.now.origins (c.in-Some.cell - s.cell) c.args.to }) (sym same) in
     let is = moved_is c.self.inside.sites.items c.self.inside.owners.items c.self.inside.uses c.args.self.now (stored c.self.inside c.args.self.now c.self.invariant c.self.view_is) c.args.used c.args.to c.in-Some.cell c.index-at.result.now c.index_mut.result.now
-        c.in-Some.ensures c.index-at.ensures c.index_mut.ensures.value _ _ (ap (λ (s : PlainSite). set c.self.inside.sites.items c.index-at.result.now s) site) c.set.ensures in
+    c.in-Some.ensures c.index-at.ensures c.index_mut.ensures.value _ _ (ap (λ (s : PlainSite). set c.self.inside.sites.items c.index-at.result.now s) site) c.set.ensures in
     seen _ _ is
