@@ -1,0 +1,3 @@
+pub mod Interpreted
+pub mod Machines
+pub mod Steps

@@ -1,0 +1,17 @@
+//! The source's own run, defined or not, from an input to an output.
+//! Promise: `interpret` ends as the definition of the run says, and the output has gained what the
+//! run writes.
+//! Always: calls and statements are kept on a list of its own, and not on the machine's stack.
+#![tactic(auto)]
+
+mod calls;
+mod expression;
+mod frame;
+mod interpret;
+mod machine;
+mod operands;
+mod statement;
+mod stop;
+
+pub use interpret::interpret;
+pub use stop::Ending;
