@@ -1,10 +1,12 @@
 -- The configuration of the definition at which a machine stands.
-use Rattle.std.specs.Prelude.{◌≡◌, ℕ, List, [], ◌∷◌, map, reverse}
+use Rattle.std.specs.Prelude.{◌≡◌, ℕ, List, [], ◌∷◌, map, length, reverse}
 use Rattle.val_core.specs.declared.values.Value.{Value}
 use Rattle.val_core.specs.Memory.{Memory}
+use Rattle.c_typed.specs.Typed.{ProgramTree}
+use Rattle.c_mean.specs.Run.{objects_of}
 use Rattle.c_interp_store.specs.Holding.{Opened, Holds, opened_of}
 use Rattle.c_interp_def.specs.Configurations as def
-use Rattle.c_interp_def.specs.Configurations.{Configuration, Reached}
+use Rattle.c_interp_def.specs.Configurations.{Configuration, Reached, variables_of}
 use Rattle.c_interp_expand.specs.TaskViews.{slots_of, flow_of}
 use Rattle.c_interp.specs.declared.frame.Frame.{Frame}
 use Rattle.c_interp.specs.declared.machine.Machine.{Machine}
@@ -28,14 +30,21 @@ reached_of m k i = record { flow = flow_of m.flow; at = config_of m k i }
 abbrev pub opened_in : Frame → Opened
 opened_in f = opened_of f.objects
 
-abbrev pub IsHeld : Machine → Memory → Type 0
-IsHeld m k = Holds m.store (opened_in m.frame ∷ reverse (map opened_in m.callers.items)) k
+-- a function, and how many objects a call of it has
+pub record Counted : Type 0 where
+  pub function : ℕ
+  pub objects : ℕ
 
--- the second machine has one more operand, and nothing else differs
-pub record HasOneMore (v : Value) (few many : Machine) : Type 0 where
-  pub operands : reverse many.operands.items ≡ v ∷ reverse few.operands.items
-  pub tasks : many.tasks ≡ few.tasks
-  pub frame : many.frame ≡ few.frame
-  pub callers : many.callers ≡ few.callers
-  pub flow : many.flow ≡ few.flow
-  pub store : many.store ≡ few.store
+abbrev pub counted_in : Frame → Counted
+counted_in f = record { function = f.function; objects = f.objects.count }
+
+-- each call but the first of all has the objects of its function
+abbrev pub AreCounted : ProgramTree → List Counted → Type 0
+AreCounted p [] = Unit {0}
+AreCounted p (c ∷ []) = Unit {0}
+AreCounted p (c ∷ d ∷ cs) = (c.objects ≡ length (objects_of p.structs (variables_of p c.function))) × AreCounted p (d ∷ cs)
+
+-- the machine's store holds this memory
+pub record IsHeld (p : ProgramTree) (m : Machine) (k : Memory) : Type 0 where
+  pub store : Holds m.store (opened_in m.frame ∷ reverse (map opened_in m.callers.items)) k
+  pub counts : AreCounted p (counted_in m.frame ∷ reverse (map counted_in m.callers.items))

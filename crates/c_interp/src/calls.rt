@@ -1,11 +1,29 @@
 //! Calls that begin and end (ISO/IEC 9899:2011, 6.5.2.2, 6.9.1).
 
-use crate::expression::object_at;
+ghost use Rattle.std.specs.Prelude.{◌≡◌, ℕ, ◌<◌, ◌^◌, Some, List, IfOk, slice_get};
+ghost use Rattle.val_core.specs.Memory.{Memory};
+ghost use Rattle.val_core.specs.Objects.{address_in};
+ghost use Rattle.c_typed.specs.WellTyped.{params_of};
+ghost use Rattle.c_mean.specs.Expressions.{value_or_none};
+ghost use Rattle.c_mean.specs.Run.{params_stored, params_in_scope, value_at_end};
+ghost use Rattle.c_interp_store.specs.Holding.{Opened, Holds};
+ghost use Rattle.c_interp_expand.specs.TaskViews.{slots_of, flow_of};
+ghost use Rattle.c_interp_def.specs.Configurations.{variables_of, object_sizes};
+ghost use Rattle.c_interp_def.specs.declared.task.Flow.TheVariants.{Normal};
+ghost use Rattle.c_interp_def.specs.ExprTasks as task;
+ghost use Rattle.c_interp_def.specs.ExprTasks.{expr_task_run};
+ghost use Rattle.c_interp_def.specs.StmtTasks as stmt;
+ghost use Rattle.c_interp_def.specs.StmtTasks.{handler_run};
+ghost use Rattle.c_interp.specs.Steps.{IsStep};
+ghost use Rattle.c_interp.specs.Calls.{AreTaken, IsFrame, IsEntered};
+
 use crate::frame::Frame;
 use crate::machine::{Machine, Program};
-use crate::operands::{put, store_value};
-use crate::stop::{Ending, Stop, UNDEFINED};
+use crate::operands::give;
+use crate::stop::Stop;
 use c_interp_def::{Flow, Handler, Slot, StmtTask, Task};
+use c_interp_store::Store;
+use c_interp_value::access_width;
 use c_typed::TFunction;
 use std::alloc::Global;
 use std::mem::replace;
@@ -14,81 +32,145 @@ use val_core::Value;
 // So many blocks may be made before the last call begins.
 const MOST_BLOCKS: u64 = 0x8000_0000_0000_0000;
 
-impl<'a> Machine<'a> {
-    // Calls a function with the newest operands.
-    pub(crate) fn call(
-        &mut self,
-        alloc: Global,
-        program: Program<'a>,
-        function: u32,
-        count: usize,
-    ) -> Result<(), Stop> {
-        if self.frame.depth == 0 {
-            return Err(Stop::Ended(Ending::Cut));
-        }
-        let Some(f) = program.typed.functions.get(function as usize) else {
-            return Err(UNDEFINED);
-        };
-        let Some(layout) = program.layouts.functions.get(function as usize) else {
-            return Err(UNDEFINED);
-        };
-        let objects = self.store.open(alloc, &layout.shapes)?;
-        if objects.first >= MOST_BLOCKS {
-            return Err(Stop::NoMemory);
-        }
-        let frame = Frame {
-            function,
-            objects,
-            depth: self.frame.depth - 1,
-            slots: Vec::new(alloc),
-        };
-        self.callers.push(replace(&mut self.frame, frame))?;
-        let first = self.operands.len().saturating_sub(count);
-        self.take_arguments(program, f, first)?;
-        self.operands.truncate(first);
-        self.push(Task::Handler(Handler::EndCall))?;
-        self.push_stmt(StmtTask::RunItems(&f.body))
+/// Calls a function with so many of the newest operands.
+pub(crate) fn call<'a>(
+    machine: &mut Machine<'a>,
+    alloc: Global,
+    program: Program<'a>,
+    function: u32,
+    count: usize,
+) -> Result<(), Stop>
+    requires { machine.old.flow ≡ Normal }
+    ensures { (n : ℕ) → IsStep program.typed.now n result machine.old machine.new
+        (expr_task_run program.typed.now n (task.call function count)) }
+{
+    if machine.frame.depth == 0 {
+        return Err(Stop::Cut);
     }
+    let Some(f) = program.typed.functions.get(function as usize) else {
+        return Err(Stop::Undefined);
+    };
+    let frame = frame_of(machine, alloc, program, function, f, count)?;
+    enter(machine, frame, f)
+}
 
-    // The parameters come into scope, and begin with the operands from an index on.
-    fn take_arguments(
-        &mut self,
-        program: Program<'a>,
-        f: &'a TFunction,
-        first: usize,
-    ) -> Result<(), Stop> {
-        let mut number = 0;
-        for i in 0..(f.params as usize).min(f.variables.len()) {
-            let v = match self.operands.get(first.saturating_add(i)) {
-                Some(v) => *v,
-                None => Value::Bad,
-            };
-            if f.variables[i].is_object {
-                let at = object_at(self, program, number);
-                store_value(&mut self.store, &f.variables[i].ty, at, v)?;
-                self.frame.slots.push(Slot::Object(number))?;
-                number = number.saturating_add(1);
-            } else {
-                self.frame.slots.push(Slot::Holds(v))?;
+// The frame of a call of this function. Its blocks are opened, and its arguments taken.
+fn frame_of<'a>(
+    machine: &mut Machine<'a>,
+    alloc: Global,
+    program: Program<'a>,
+    function: u32,
+    f: &'a TFunction,
+    count: usize,
+) -> Result<Frame, Stop>
+    requires there { slice_get program.typed.now.functions function ≡ Some f.now }
+    requires depth { 0 < machine.old.frame.depth }
+    ensures { IsFrame program.typed.now function count f.now machine.old machine.new result }
+{
+    let Some(layout) = program.layouts.functions.get(function as usize) else {
+        return Err(Stop::Undefined);
+    };
+    let objects = machine.store.open(alloc, &layout.shapes)?;
+    if objects.first >= MOST_BLOCKS {
+        return Err(Stop::NoMemory);
+    }
+    let first = machine.operands.len().saturating_sub(count);
+    let slots = take_arguments(
+        alloc,
+        program,
+        function,
+        objects.first,
+        f,
+        &machine.operands[first..],
+        &mut machine.store,
+    )?;
+    machine.operands.truncate(first);
+    Ok(Frame {
+        function,
+        objects,
+        depth: machine.frame.depth - 1,
+        slots,
+    })
+}
+
+// The parameters in scope as a call begins, whose blocks are numbered from `first` on. Those that
+// are objects are stored.
+fn take_arguments<'a>(
+    alloc: Global,
+    program: Program<'a>,
+    function: u32,
+    first: u64,
+    f: &TFunction,
+    arguments: &[Value],
+    store: &mut Store,
+) -> Result<Vec<Slot>, Stop>
+    requires there { slice_get program.typed.now.functions function ≡ Some f.now }
+    requires fit { first < 2 ^ 63 }
+    ensures stored { (calls : List Opened) (m : Memory) → Holds store.old calls m →
+        AreTaken calls (params_stored (address_in first
+        (object_sizes program.typed.now (variables_of program.typed.now function)))
+        0 (params_of f.now) arguments.now m) store.new result }
+    ensures slots { IfOk result (λ slots. slots_of slots.items
+        ≡ params_in_scope 0 (params_of f.now) arguments.now) }
+{
+    let mut slots = Vec::new(alloc);
+    let mut number = 0;
+    for i in 0..(f.params as usize).min(f.variables.len()) {
+        let v = match arguments.get(i) {
+            Some(v) => *v,
+            None => Value::Bad,
+        };
+        if f.variables[i].is_object {
+            let at = program.layouts.object(function, first, number);
+            if !store.store(access_width(&f.variables[i].ty), at, v) {
+                return Err(Stop::Undefined);
             }
+            slots.push(Slot::Object(number))?;
+            number += 1;
+        } else {
+            slots.push(Slot::Holds(v))?;
         }
-        Ok(())
     }
+    Ok(slots)
+}
 
-    // The caller goes on with the value of the call.
-    pub(crate) fn end_call(&mut self, program: Program<'a>) -> Result<(), Stop> {
-        let value = match self.flow {
-            Flow::Returned(Some(v)) => v,
-            Flow::Returned(None) => Value::Bad,
-            _ if self.frame.function == program.typed.main => Value::Num(0),
-            _ => Value::Bad,
-        };
-        let Some(caller) = self.callers.pop() else {
-            return Err(UNDEFINED);
-        };
-        let ended = replace(&mut self.frame, caller);
-        self.store.close(ended.objects);
-        self.flow = Flow::Normal;
-        put(&mut self.operands, Some(value))
+// The call begins, and its caller waits.
+fn enter<'a>(machine: &mut Machine<'a>, frame: Frame, f: &'a TFunction) -> Result<(), Stop>
+    requires { machine.old.flow ≡ Normal }
+    ensures { IsEntered frame f.now machine.old machine.new result }
+{
+    let caller = replace(&mut machine.frame, frame);
+    machine.callers.push(caller)?;
+    machine.tasks.push(Task::Handler(Handler::EndCall))?;
+    machine
+        .tasks
+        .push(Task::OfStmt(StmtTask::RunItems(&f.body)))?;
+    Ok(())
+}
+
+// What a function gives as it ends: `main` gives 0 where it does not return.
+fn value_at_end(is_main: bool, flow: Flow) -> Value
+    ensures { result ≡ value_or_none (value_at_end is_main (flow_of flow)) }
+{
+    match flow {
+        Flow::Returned(Some(v)) => v,
+        Flow::Returned(None) => Value::Bad,
+        _ if is_main => Value::Num(0),
+        _ => Value::Bad,
     }
+}
+
+/// The newest call has ended: the caller goes on with its value.
+pub(crate) fn end_call<'a>(machine: &mut Machine<'a>, program: Program<'a>) -> Result<(), Stop>
+    ensures { (n : ℕ) → IsStep program.typed.now n result machine.old machine.new
+        (handler_run program.typed.now n stmt.end_call (flow_of machine.old.flow)) }
+{
+    let value = value_at_end(machine.frame.function == program.typed.main, machine.flow);
+    let Some(caller) = machine.callers.pop() else {
+        return Err(Stop::Undefined);
+    };
+    let ended = replace(&mut machine.frame, caller);
+    machine.store.close(ended.objects);
+    machine.flow = Flow::Normal;
+    give(machine, Some(value))
 }

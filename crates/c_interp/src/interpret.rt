@@ -1,12 +1,15 @@
 //! The run of a program.
 
-ghost use Rattle.std.specs.Prelude.{◌≡◌, ◌≤◌, MatchResult};
+ghost use Rattle.std.specs.Prelude.{◌≡◌, ◌≤◌, MatchResult, IfOk};
 ghost use Rattle.c_typed.specs.WellTyped.{IsWellTyped};
 ghost use Rattle.cc_io.specs.Faults.{Increased};
 ghost use Rattle.c_interp.specs.Interpreted.{HasEnded, IsPart};
+ghost use Rattle.c_interp.specs.Begun.{HasBegun, stop_of};
+ghost use Rattle.c_interp.specs.declared.stop.Stop.TheVariants as AnyStop;
 
 use crate::frame::Frame;
 use crate::machine::{Machine, Program};
+use crate::step::step;
 use crate::stop::{Ending, Stop};
 use c_interp_def::{ExprTask, Flow, Task};
 use c_interp_layout::{first_memory, lay_out};
@@ -53,8 +56,23 @@ pub fn interpret<I: Source, O: Sink>(
         layouts: &layouts,
         bound,
     };
-    let mut machine = Machine {
-        tasks: Vec::new(alloc),
+    let mut machine = machine_of(alloc, program)?;
+    run(alloc, program, &mut machine, input, output)
+}
+
+// The machine as a program begins.
+fn machine_of<'a>(alloc: Global, program: Program<'a>) -> Result<Machine<'a>, NoMemory>
+    requires typed { IsWellTyped program.typed.now }
+    requires most { program.bound ≤ 1000000 }
+    ensures { IfOk result (HasBegun program.typed.now program.bound) }
+{
+    let typed = program.typed;
+    let store = first_memory(alloc, typed, program.layouts)?;
+    let mut tasks = Vec::new(alloc);
+    tasks.push(Task::OfExpr(ExprTask::EndProgram))?;
+    tasks.push(Task::OfExpr(ExprTask::Call(typed.main, 0)))?;
+    Ok(Machine {
+        tasks,
         operands: Vec::new(alloc),
         frame: Frame {
             function: typed.main,
@@ -62,18 +80,13 @@ pub fn interpret<I: Source, O: Sink>(
                 first: 0,
                 count: typed.globals.len() as u64,
             },
-            depth: bound + 1,
+            depth: program.bound + 1,
             slots: Vec::new(alloc),
         },
         callers: Vec::new(alloc),
         flow: Flow::Normal,
-        store: first_memory(alloc, typed, &layouts)?,
-    };
-    machine.tasks.push(Task::OfExpr(ExprTask::EndProgram))?;
-    machine
-        .tasks
-        .push(Task::OfExpr(ExprTask::Call(typed.main, 0)))?;
-    run(alloc, program, &mut machine, input, output)
+        store,
+    })
 }
 
 // Does the tasks that are left, and those that they come to.
@@ -83,17 +96,43 @@ fn run<'a, I: Source, O: Sink>(
     machine: &mut Machine<'a>,
     input: &mut I,
     output: &mut O,
-) -> Result<Ending, NoMemory> {
+) -> Result<Ending, NoMemory>
+    requires { HasBegun program.typed.now program.bound machine.old }
+    ensures ends { MatchResult result
+        (HasEnded program.bound program.typed.now
+        (record { held = O.held output.old; left = I.left input.old })
+        (record { held = O.held output.new; left = I.left input.new })
+        (Increased (I.faults input.old) (I.faults input.new))
+        (Increased (O.faults output.old) (O.faults output.new)))
+        (λ _. IsPart program.bound program.typed.now
+        (record { held = O.held output.old; left = I.left input.old })
+        (record { held = O.held output.new; left = I.left input.new })) }
+    ensures read_faults { I.faults input.old ≤ I.faults input.new }
+    ensures write_faults { O.faults output.old ≤ O.faults output.new }
+    ensures rest { O.rest output.new ≡ O.rest output.old }
+{
     let mut at_end = false;
     for _step in 0..u64::MAX {
         let Some(task) = machine.tasks.pop() else {
             return Ok(Ending::Undefined);
         };
-        match machine.step(alloc, program, task, input, &mut at_end, output) {
+        match step(machine, alloc, program, task, input, &mut at_end, output) {
             Ok(()) => {}
-            Err(Stop::Ended(ending)) => return Ok(ending),
-            Err(Stop::NoMemory) => return Err(NoMemory),
+            Err(stop) => return ending_of(stop),
         }
     }
     Err(NoMemory)
+}
+
+fn ending_of(stop: Stop) -> Result<Ending, NoMemory>
+    ensures { MatchResult result (λ e. stop ≡ stop_of e) (λ _. stop ≡ AnyStop.NoMemory) }
+{
+    match stop {
+        Stop::Exit(status) => Ok(Ending::Exit(status)),
+        Stop::Cut => Ok(Ending::Cut),
+        Stop::Undefined => Ok(Ending::Undefined),
+        Stop::ReadFault => Ok(Ending::ReadFault),
+        Stop::WriteFault => Ok(Ending::WriteFault),
+        Stop::NoMemory => Err(NoMemory),
+    }
 }

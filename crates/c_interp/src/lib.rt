@@ -4,14 +4,21 @@
 //! Always: calls and statements are kept on a list of its own, and not on the machine's stack.
 #![tactic(auto)]
 
+mod begin;
 mod calls;
 mod expression;
 mod frame;
 mod interpret;
 mod machine;
 mod operands;
+mod part;
+mod push;
 mod statement;
+mod step;
 mod stop;
+mod streams;
+mod turns;
+mod variable;
 
 pub use interpret::interpret;
 pub use stop::Ending;

@@ -1,5 +1,9 @@
 //! How a run ends.
 
+ghost use Rattle.std.specs.Prelude.{◌≡◌};
+ghost use Rattle.c_interp.specs.declared.stop.Stop.{Stop as AnyStop};
+ghost use Rattle.c_interp.specs.declared.stop.Stop.TheVariants as stop;
+
 use no_memory::NoMemory;
 use std::alloc::{AllocError, AllocFailed};
 
@@ -14,28 +18,28 @@ pub enum Ending {
     WriteFault,
 }
 
-// Why a step does not go on.
+// Why a step does not go on: the run has an ending, or memory is out.
 #[derive(Clone, Copy)]
 pub(crate) enum Stop {
-    Ended(Ending),
+    Exit(u8),
+    Cut,
+    Undefined,
+    ReadFault,
+    WriteFault,
     NoMemory,
 }
 
-pub(crate) const UNDEFINED: Stop = Stop::Ended(Ending::Undefined);
-
 impl From<NoMemory> for Stop {
+    ghost from_gives = { λ _ e. e ≡ stop.NoMemory };
+
     fn from(_e: NoMemory) -> Stop {
         Stop::NoMemory
     }
 }
 
-impl From<AllocError> for Stop {
-    fn from(_e: AllocError) -> Stop {
-        Stop::NoMemory
-    }
-}
-
 impl<T: Drop> From<AllocFailed<T>> for Stop {
+    ghost from_gives = { λ _ e. e ≡ stop.NoMemory };
+
     fn from(_e: AllocFailed<T>) -> Stop {
         Stop::NoMemory
     }

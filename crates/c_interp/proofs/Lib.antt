@@ -1,2 +1,0 @@
-mod Used
-mod Operands

@@ -1,0 +1,126 @@
+-- Steps of which the task is a part: operands that were taken before it, and tasks that come after it.
+use Rattle.std.proofs.Common.{◌≡◌, ℕ, ◌+◌, ◌<◌, List, [], ◌∷◌, ◌++◌, map, reverse, length, vec_len, refl, sym, ap, ◌∙◌, subst, absurd, arith}
+use Rattle.std.specs.Prelude.{Option, None, Some, Result, Ok, Err}
+use Rattle.std.proofs.lemmas.List.{append-nil, reverse-append}
+use Rattle.std.specs.declared.vec.Vec.{Vec}
+use Rattle.val_core.specs.declared.values.Value.{Value}
+use Rattle.val_core.specs.Memory.{Memory}
+use Rattle.val_core.specs.Events.{Event}
+use Rattle.val_core.specs.Answers.{Answer, Returned, Cut, Exited, Undefined, then_on, before}
+use Rattle.c_typed.specs.Typed.{ProgramTree}
+use Rattle.c_mean.specs.Run.{heard_as}
+use Rattle.c_mean.specs.Statements.{normal}
+use Rattle.c_interp_def.specs.Configurations.{Configuration, Reached, reaches, with_operands}
+use Rattle.c_interp_def.specs.StmtTasks.{Task, tasks_run}
+use Rattle.c_interp_def.specs.CallLaws.{IsHeardAs}
+use Rattle.c_interp_expand.specs.TaskViews.{tasks_of, flow_of}
+use Rattle.c_interp.specs.declared.stop.Stop.{Stop}
+use Rattle.c_interp.specs.declared.stop.Stop.TheVariants as stop
+use Rattle.c_interp.specs.declared.machine.Machine.{Machine}
+use Rattle.c_interp.specs.Machines.{config_of, reached_of, IsHeld}
+use Rattle.c_interp.specs.Steps.{IsEnd, IsStopped, IsDone, IsStep, undefined_run}
+
+-- ---- equal answers are heard as one another
+
+pub heard-equal : {A : Type 0} (a b : Answer A) → a ≡ b → IsHeardAs a b
+heard-equal a b e i o = ap (λ c. heard_as i (before o c)) e
+
+pub end-undefined : (a : Answer Reached) → a ≡ Undefined [] → IsEnd a (Undefined [])
+end-undefined a e rest = heard-equal (then_on a rest) (Undefined []) (ap (λ c. then_on c rest) e)
+
+pub end-cut : (a : Answer Reached) → a ≡ Cut [] → IsEnd a (Cut [])
+end-cut a e rest = heard-equal (then_on a rest) (Cut []) (ap (λ c. then_on c rest) e)
+
+pub end-exit : (a : Answer Reached) (status : ℕ) → a ≡ Exited [] status → IsEnd a (Exited [] status)
+end-exit a status e rest = heard-equal (then_on a rest) (Exited [] status) (ap (λ c. then_on c rest) e)
+
+-- ---- what is stopped or done by an equation
+
+pub stopped-same : (s : Stop) (a b : Answer Reached) → a ≡ b → IsStopped s b → IsStopped s a
+stopped-same s a b e h = let P : Answer Reached → Type 0 = IsStopped s in subst P (sym e) h
+
+pub done-same : (p : ProgramTree) (n : ℕ) (old new : Machine) (a b : List ℕ → Answer Reached) → ((i : List ℕ) → a i ≡ b i) → IsDone p n old new b → IsDone p n old new a
+done-same p n old new a b e d = record {
+  put = d.put;
+  tasks = d.tasks;
+  memory = d.memory;
+  held = d.held;
+  same = λ i rest j o. ap (λ c. heard_as j (before o (then_on c rest))) (e i) ∙ d.same i rest j o;
+}
+
+pub done_by : (p : ProgramTree) (n : ℕ) (old new : Machine) (a : List ℕ → Answer Reached) (put : List Task) (m : Memory) →
+    tasks_of new.tasks.items ≡ tasks_of old.tasks.items ++ put → IsHeld p new m → ((i : List ℕ) → a i ≡ tasks_run p n put (reached_of new m i)) → IsDone p n old new a
+done_by p n old new a put m tasks held same = record {
+  put = put;
+  tasks = tasks;
+  memory = m;
+  held = held;
+  same = λ i rest j o. ap (λ c. heard_as j (before o (then_on c rest))) (same i);
+}
+
+-- no task was put
+pub done_at_once : (p : ProgramTree) (n : ℕ) (old new : Machine) (a : List ℕ → Answer Reached) (m : Memory) →
+    new.tasks ≡ old.tasks → IsHeld p new m → ((i : List ℕ) → a i ≡ Returned (reached_of new m i) []) → IsDone p n old new a
+done_at_once p n old new a m tasks held same =
+    done_by p n old new a [] m (ap (λ ts. tasks_of ts.items) tasks ∙ sym (append-nil (tasks_of old.tasks.items))) held same
+
+pub undefined_step : (p : ProgramTree) (n : ℕ) (old new : Machine) (run : Configuration → Answer Reached) →
+    ((m : Memory) (i : List ℕ) → IsHeld p old m → run (config_of old m i) ≡ Undefined []) → IsStep p n (Err stop.Undefined) old new run
+undefined_step p n old new run e m held i = end-undefined (run (config_of old m i)) (e m i held)
+
+-- a step of a task that does the same
+pub same_step : (p : ProgramTree) (n : ℕ) (r : Result Unit Stop) (old new : Machine) (run run' : Configuration → Answer Reached) →
+    ((m : Memory) (i : List ℕ) → IsHeld p old m → run (config_of old m i) ≡ run' (config_of old m i)) → IsStep p n r old new run' → IsStep p n r old new run
+same_step p n (Ok u) old new run run' e step m held =
+    done-same p n old new (λ i. run (config_of old m i)) (λ i. run' (config_of old m i)) (λ i. e m i held) (step m held)
+same_step p n (Err s) old new run run' e step m held i = stopped-same s (run (config_of old m i)) (run' (config_of old m i)) (e m i held) (step m held i)
+
+-- ---- operands that were taken
+
+abbrev pub with_ops : Machine → Vec Value → Machine
+with_ops m vs = record { tasks = m.tasks; operands = vs; frame = m.frame; callers = m.callers; flow = m.flow; store = m.store }
+
+-- the newest operands first
+pub newest-one : (few many : List Value) (v : Value) → many ≡ few ++ v ∷ [] → reverse many ≡ v ∷ reverse few
+newest-one few many v e = ap reverse e ∙ reverse-append few (v ∷ [])
+
+pub newest-two : (few many : List Value) (a b : Value) → many ≡ few ++ (a ∷ b ∷ []) → reverse many ≡ b ∷ a ∷ reverse few
+newest-two few many a b e = ap reverse e ∙ reverse-append few (a ∷ b ∷ [])
+
+pub newest-three : (few many : List Value) (a b c : Value) → many ≡ few ++ (a ∷ b ∷ c ∷ []) → reverse many ≡ c ∷ b ∷ a ∷ reverse few
+newest-three few many a b c e = ap reverse e ∙ reverse-append few (a ∷ b ∷ c ∷ [])
+
+-- a task that takes operands, and what it does with them, on a machine that has them no more
+pub taken : (p : ProgramTree) (n : ℕ) (r : Result Unit Stop) (old new : Machine) (few : Vec Value) (vs : List Value) (run run' : Configuration → Answer Reached) →
+    reverse old.operands.items ≡ vs ++ reverse few.items →
+    ((m : Memory) (i : List ℕ) → IsHeld p old m → run (with_operands (config_of old m i) (vs ++ reverse few.items)) ≡ run' (config_of (with_ops old few) m i)) →
+    IsStep p n r (with_ops old few) new run' → IsStep p n r old new run
+taken p n (Ok u) old new few vs run run' e does step m held =
+    let held' : IsHeld p (with_ops old few) m = record { store = held.store; counts = held.counts } in
+    let d : IsDone p n (with_ops old few) new (λ i. run' (config_of (with_ops old few) m i)) = step m held' in
+    record {
+      put = d.put;
+      tasks = d.tasks;
+      memory = d.memory;
+      held = d.held;
+      same = λ i rest j o.
+          ap (λ xs. heard_as j (before o (then_on (run (with_operands (config_of old m i) xs)) rest))) e
+          ∙ ap (λ c. heard_as j (before o (then_on c rest))) (does m i held)
+          ∙ d.same i rest j o;
+    }
+taken p n (Err s) old new few vs run run' e does step m held i =
+    let held' : IsHeld p (with_ops old few) m = record { store = held.store; counts = held.counts } in
+    stopped-same s (run (config_of old m i)) (run' (config_of (with_ops old few) m i))
+    (ap (λ xs. run (with_operands (config_of old m i) xs)) e ∙ does m i held) (step m held' i)
+
+-- ---- operands that are not there
+
+short-one : (vs : List Value) → length vs < 1 → vs ≡ []
+short-one [] h = refl
+short-one (v ∷ vs) h = absurd (omega arith)
+
+pub none_taken : (p : ProgramTree) (n : ℕ) (old new : Machine) (run : Configuration → Answer Reached) → length old.operands.items ≡ 0 →
+    ((x : Configuration) → run (with_operands x []) ≡ Undefined []) → IsStep p n (Err stop.Undefined) old new run
+none_taken p n old new run h e =
+    undefined_step p n old new run
+    (λ m i held. ap (λ xs. run (with_operands (config_of old m i) (reverse xs))) (short-one old.operands.items (omega (arith, h))) ∙ e (config_of old m i))
