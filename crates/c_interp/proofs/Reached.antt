@@ -34,6 +34,7 @@ use Rattle.c_interp.specs.Machines.{config_of, reached_of, IsHeld}
 use Rattle.c_interp.specs.Steps.{IsStopped, task_from}
 use Rattle.c_interp.specs.Ports.{Port, IsDoneAt, IsStoppedAt, AreLeft, IsStepAt}
 use Rattle.c_interp.specs.Begun.{HasBegun, stop_of}
+use Rattle.c_interp.proofs.Steps.{with_tasks}
 use Rattle.c_interp.proofs.Heard.{heard-equal, heard-twice, heard-after, heard-once, taken-append, heard_with, heard-exit, heard-cut, heard-undefined, heard-returned, written-first}
 
 pub record IsReached (p : ProgramTree) (n : ℕ) (first : Port) (m : Machine) (now : Port) : Type 0 where
@@ -65,9 +66,6 @@ reached_first p n m now open_ b = record {
 }
 
 -- ---- one task more
-
-abbrev pub with_tasks : Machine → Vec Task → Machine
-with_tasks m ts = record { tasks = ts; operands = m.operands; frame = m.frame; callers = m.callers; flow = m.flow; store = m.store }
 
 tasks-last : (few : List Task) (t : Task) → tasks_of (few ++ t ∷ []) ≡ tasks_of few ++ task_of t ∷ []
 tasks-last [] t = refl

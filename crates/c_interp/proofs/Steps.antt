@@ -9,21 +9,22 @@ use Rattle.val_core.specs.Events.{Event}
 use Rattle.val_core.specs.Answers.{Answer, Returned, Cut, Exited, Undefined, then_on, before}
 use Rattle.c_typed.specs.Typed.{ProgramTree}
 use Rattle.c_mean.specs.Run.{heard_as}
+use Rattle.c_interp_store.specs.declared.store.Store.{Store}
+use Rattle.c_interp_store.specs.Holding.{Holds}
 use Rattle.c_mean.specs.Statements.{normal}
-use Rattle.c_interp_def.specs.Configurations.{Configuration, Reached, reaches, with_operands}
+use Rattle.c_interp_def.specs.Configurations.{Configuration, Reached, reaches, with_operands, on_operands, on_three}
+use Rattle.c_interp_def.specs.Laws.{normally}
+use Rattle.c_interp_def.specs.declared.task.Task.{Task as Left}
 use Rattle.c_interp_def.specs.StmtTasks.{Task, tasks_run}
 use Rattle.c_interp_def.specs.CallLaws.{IsHeardAs}
 use Rattle.c_interp_expand.specs.TaskViews.{tasks_of, flow_of}
 use Rattle.c_interp.specs.declared.stop.Stop.{Stop}
 use Rattle.c_interp.specs.declared.stop.Stop.TheVariants as stop
 use Rattle.c_interp.specs.declared.machine.Machine.{Machine}
-use Rattle.c_interp.specs.Machines.{config_of, reached_of, IsHeld}
-use Rattle.c_interp.specs.Steps.{IsEnd, IsStopped, IsDone, IsStep, undefined_run}
-
--- ---- equal answers are heard as one another
-
-pub heard-equal : {A : Type 0} (a b : Answer A) → a ≡ b → IsHeardAs a b
-heard-equal a b e i o = ap (λ c. heard_as i (before o c)) e
+use Rattle.c_interp.specs.Machines.{config_of, reached_of, opened_in, IsHeld}
+use Rattle.c_interp_def.specs.declared.task.Flow.TheVariants.{Normal}
+use Rattle.c_interp.specs.Steps.{IsEnd, IsStopped, IsDone, IsStep, undefined_run, nothing_run}
+use Rattle.c_interp.proofs.Heard.{heard-equal}
 
 pub end-undefined : (a : Answer Reached) → a ≡ Undefined [] → IsEnd a (Undefined [])
 end-undefined a e rest = heard-equal (then_on a rest) (Undefined []) (ap (λ c. then_on c rest) e)
@@ -80,6 +81,9 @@ same_step p n (Err s) old new run run' e step m held i = stopped-same s (run (co
 abbrev pub with_ops : Machine → Vec Value → Machine
 with_ops m vs = record { tasks = m.tasks; operands = vs; frame = m.frame; callers = m.callers; flow = m.flow; store = m.store }
 
+abbrev pub with_tasks : Machine → Vec Left → Machine
+with_tasks m ts = record { tasks = ts; operands = m.operands; frame = m.frame; callers = m.callers; flow = m.flow; store = m.store }
+
 -- the newest operands first
 pub newest-one : (few many : List Value) (v : Value) → many ≡ few ++ v ∷ [] → reverse many ≡ v ∷ reverse few
 newest-one few many v e = ap reverse e ∙ reverse-append few (v ∷ [])
@@ -124,3 +128,67 @@ pub none_taken : (p : ProgramTree) (n : ℕ) (old new : Machine) (run : Configur
 none_taken p n old new run h e =
     undefined_step p n old new run
     (λ m i held. ap (λ xs. run (with_operands (config_of old m i) (reverse xs))) (short-one old.operands.items (omega (arith, h))) ∙ e (config_of old m i))
+
+none_of_two : (vs : List Value) → length vs < 2 → (next : Value → Value → Configuration → Answer Reached) (x : Configuration) → on_operands (with_operands x (reverse vs)) next ≡ Undefined []
+none_of_two [] h next x = refl
+none_of_two (v ∷ []) h next x = refl
+none_of_two (v ∷ w ∷ vs) h next x = absurd (omega arith)
+
+none_of_three : (vs : List Value) → length vs < 3 → (next : Value → Value → Value → Configuration → Answer Reached) (x : Configuration) → on_three (with_operands x (reverse vs)) next ≡ Undefined []
+none_of_three [] h next x = refl
+none_of_three (v ∷ []) h next x = refl
+none_of_three (v ∷ w ∷ []) h next x = refl
+none_of_three (v ∷ w ∷ u ∷ vs) h next x = absurd (omega arith)
+
+pub two_not_taken : (p : ProgramTree) (n : ℕ) (old new : Machine) (next : Value → Value → Configuration → Answer Reached) → length old.operands.items < 2 →
+    IsStep p n (Err stop.Undefined) old new (λ x. on_operands x next)
+two_not_taken p n old new next h = undefined_step p n old new (λ x. on_operands x next) (λ m i held. none_of_two old.operands.items h next (config_of old m i))
+
+pub three_not_taken : (p : ProgramTree) (n : ℕ) (old new : Machine) (next : Value → Value → Value → Configuration → Answer Reached) → length old.operands.items < 3 →
+    IsStep p n (Err stop.Undefined) old new (λ x. on_three x next)
+three_not_taken p n old new next h = undefined_step p n old new (λ x. on_three x next) (λ m i held. none_of_three old.operands.items h next (config_of old m i))
+
+-- ---- other changes before a step
+
+-- a machine that has moved before it does what is left of the task
+pub moved : (p : ProgramTree) (n : ℕ) (r : Result Unit Stop) (old mid new : Machine) (run run' : Configuration → Answer Reached) → mid.tasks ≡ old.tasks →
+    ((m : Memory) → IsHeld p old m → (k : Memory) × IsHeld p mid k × ((i : List ℕ) → run (config_of old m i) ≡ run' (config_of mid k i))) →
+    IsStep p n r mid new run' → IsStep p n r old new run
+moved p n (Ok u) old mid new run run' tasks at step m held =
+    let (k, held', does) = at m held in
+    let d : IsDone p n mid new (λ i. run' (config_of mid k i)) = step k held' in
+    record {
+      put = d.put;
+      tasks = d.tasks ∙ ap (λ ts. tasks_of ts.items ++ d.put) tasks;
+      memory = d.memory;
+      held = d.held;
+      same = λ i rest j o. ap (λ c. heard_as j (before o (then_on c rest))) (does i) ∙ d.same i rest j o;
+    }
+moved p n (Err s) old mid new run run' tasks at step m held i =
+    let (k, held', does) = at m held in
+    stopped-same s (run (config_of old m i)) (run' (config_of mid k i)) (does i) (step k held' i)
+
+pub nothing_step : (p : ProgramTree) (n : ℕ) (u : Unit) (m : Machine) → m.flow ≡ Normal → IsStep p n (Ok u) m m nothing_run
+nothing_step p n u m e k held = done_at_once p n m m (λ i. nothing_run (config_of m k i)) k refl held (λ i. ap (λ f. reaches (flow_of f) (config_of m k i)) (sym e))
+
+-- tasks that were put
+pub put_step : (p : ProgramTree) (n : ℕ) (u : Unit) (old : Machine) (many : Vec Left) (ts : List Task) (run : Configuration → Answer Reached) → old.flow ≡ Normal →
+    tasks_of many.items ≡ tasks_of old.tasks.items ++ ts → ((m : Memory) (i : List ℕ) → run (config_of old m i) ≡ tasks_run p n ts (normally (config_of old m i))) →
+    IsStep p n (Ok u) old (with_tasks old many) run
+put_step p n u old many ts run e tasks does m held =
+    let held' : IsHeld p (with_tasks old many) m = record { store = held.store; counts = held.counts } in
+    done_by p n old (with_tasks old many) (λ i. run (config_of old m i)) ts m tasks held'
+    (λ i. does m i ∙ ap (λ f. tasks_run p n ts (record { flow = flow_of f; at = config_of old m i })) (sym e))
+
+-- ---- a memory that is changed
+
+abbrev pub with_store : Machine → Store → Machine
+with_store m s = record { tasks = m.tasks; operands = m.operands; frame = m.frame; callers = m.callers; flow = m.flow; store = s }
+
+pub changed_step : (p : ProgramTree) (n : ℕ) (u : Unit) (old : Machine) (s : Store) (run : Configuration → Answer Reached) → old.flow ≡ Normal →
+    ((m : Memory) → IsHeld p old m → (k : Memory) × Holds s (opened_in old.frame ∷ reverse (map opened_in old.callers.items)) k × ((i : List ℕ) → run (config_of old m i) ≡ reaches normal (config_of old k i))) →
+    IsStep p n (Ok u) old (with_store old s) run
+changed_step p n u old s run e changes m held =
+    let (k, holds, does) = changes m held in
+    let held' : IsHeld p (with_store old s) k = record { store = holds; counts = held.counts } in
+    done_at_once p n old (with_store old s) (λ i. run (config_of old m i)) k refl held' (λ i. does i ∙ ap (λ f. reaches (flow_of f) (config_of old k i)) (sym e))

@@ -229,10 +229,11 @@ pub(crate) fn load_at(machine: &mut Machine, t: &CType) -> Result<(), Stop>
     ensures { (p : ProgramTree) (n : ℕ)
         → IsStep p n result machine.old machine.new (expr_task_run p n (task.load_at t.now)) }
 {
-    let Some(a) = machine.operands.last() else {
+    let Some(a) = machine.operands.pop() else {
         return Err(Stop::Undefined);
     };
-    let v = loaded(&machine.store, t, *a);
+    machine.operands.push(a)?;
+    let v = loaded(&machine.store, t, a);
     give(machine, v)
 }
 

@@ -130,10 +130,13 @@ pub(crate) fn end_switch(machine: &mut Machine) -> Result<(), Stop>
         → IsStep p n result machine.old machine.new
         (handler_run p n stmt.end_switch (flow_of machine.old.flow)) }
 {
-    if let Flow::Broke = machine.flow {
-        machine.flow = Flow::Normal;
+    match machine.flow {
+        Flow::Broke => {
+            machine.flow = Flow::Normal;
+            Ok(())
+        }
+        _ => Ok(()),
     }
-    Ok(())
 }
 
 /// A turn of a loop has ended, and so many are left: the loop goes on, or is left.

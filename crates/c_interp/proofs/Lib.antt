@@ -1,0 +1,6 @@
+mod Heard
+mod Steps
+mod Reached
+mod Operators
+mod Statements
+mod CallSteps
