@@ -1,8 +1,7 @@
 -- A call that begins, and one that ends.
-use Rattle.std.proofs.Common.{◌≡◌, ℕ, suc, ◌-◌, ◌==◌, List, [], ◌∷◌, ◌++◌, length, map, drop, reverse, refl, sym, ap, ◌∙◌, subst}
+use Rattle.std.proofs.Common.{Vec, Global, ◌≡◌, ℕ, suc, ◌-◌, ◌==◌, List, [], ◌∷◌, ◌++◌, length, map, drop, reverse, refl, sym, ap, ◌∙◌, subst}
 use Rattle.std.specs.Prelude.{Option, None, Some, slice_get, Result, Ok, Err}
 use Rattle.std.proofs.lemmas.List.{map-append, reverse-append}
-use Rattle.std.specs.declared.vec.Vec.{Vec}
 use Rattle.val_core.specs.declared.values.Value.{Value}
 use Rattle.val_core.specs.Memory.{Memory, closed}
 use Rattle.val_core.specs.Events.{Event}
@@ -76,13 +75,13 @@ call_done p n f count u old mid new fn frame flow depth there begins h m held =
     let x : List ℕ → Configuration = config_of old m in
     let is_function : frame.function ≡ f = ap (λ g. g.function) b.frame in
     let objects : frame.objects.count ≡ length (objects_of p.structs (variables_of p frame.function)) =
-        b.counted ∙ ap (λ o. length (objects_of p.structs (variables_in o))) (sym there) ∙ ap (λ g. length (objects_of p.structs (variables_of p g))) (sym is_function) in
+    b.counted ∙ ap (λ o. length (objects_of p.structs (variables_in o))) (sym there) ∙ ap (λ g. length (objects_of p.structs (variables_of p g))) (sym is_function) in
     let opened : opened_in new.frame ∷ reverse (map opened_in new.callers.items) ≡ opened_in frame ∷ opened_in old.frame ∷ reverse (map opened_in old.callers.items) =
-        ap (λ g. opened_in g ∷ reverse (map opened_in new.callers.items)) h.frame_is
-        ∙ ap (λ os. opened_in frame ∷ os) (callers-are opened_in p f count fn frame old mid new m b h) in
+    ap (λ g. opened_in g ∷ reverse (map opened_in new.callers.items)) h.frame_is
+    ∙ ap (λ os. opened_in frame ∷ os) (callers-are opened_in p f count fn frame old mid new m b h) in
     let counted : counted_in new.frame ∷ reverse (map counted_in new.callers.items) ≡ counted_in frame ∷ counted_in old.frame ∷ reverse (map counted_in old.callers.items) =
-        ap (λ g. counted_in g ∷ reverse (map counted_in new.callers.items)) h.frame_is
-        ∙ ap (λ cs. counted_in frame ∷ cs) (callers-are counted_in p f count fn frame old mid new m b h) in
+    ap (λ g. counted_in g ∷ reverse (map counted_in new.callers.items)) h.frame_is
+    ∙ ap (λ cs. counted_in frame ∷ cs) (callers-are counted_in p f count fn frame old mid new m b h) in
     let holds : Store → List Opened → Type 0 = λ s os. Holds s os b.memory in
     record {
       put = call_tasks fn;
@@ -110,10 +109,10 @@ call_done p n f count u old mid new fn frame flow depth there begins h m held =
 -- ---- a call that ends
 
 -- the machine with the caller of the newest call
-abbrev pub back_in : Machine → Frame → Vec Frame → Store → Machine
+abbrev pub back_in : Machine → Frame → Vec Frame Global → Store → Machine
 back_in m caller few s = record { tasks = m.tasks; operands = m.operands; frame = caller; callers = few; flow = Normal; store = s }
 
-pub end_call_done : (p : ProgramTree) (n : ℕ) (r : Result Unit Stop) (old new : Machine) (caller : Frame) (few : Vec Frame) (s : Store) (value : Value) →
+pub end_call_done : (p : ProgramTree) (n : ℕ) (r : Result Unit Stop) (old new : Machine) (caller : Frame) (few : Vec Frame Global) (s : Store) (value : Value) →
     old.callers.items ≡ few.items ++ caller ∷ [] → value ≡ value_or_none (value_at_end (old.frame.function == p.main) (flow_of old.flow)) →
     ((calls : List Opened) (m : Memory) → Holds old.store (opened_in old.frame ∷ calls) m → Holds s calls (closed old.frame.objects.first old.frame.objects.count m)) →
     IsStep p n r (back_in old caller few s) new (give_run (Some value)) → IsStep p n r old new (handler_run p n end_call (flow_of old.flow))
@@ -123,15 +122,20 @@ end_call_done p n r old new caller few s value popped is closes step =
     let first : ℕ = old.frame.objects.first in
     let waits : {X : Type 0} (g : Frame → X) → reverse (map g old.callers.items) ≡ g caller ∷ reverse (map g few.items) = λ g. ap (λ fs. reverse (map g fs)) popped ∙ newest_mapped g few.items caller in
     let counts : (old.frame.objects.count ≡ length (objects_of p.structs (variables_of p old.frame.function))) × AreCounted p (counted_in caller ∷ reverse (map counted_in few.items)) =
-        let P : List Counted → Type 0 = λ cs. AreCounted p (counted_in old.frame ∷ cs) in subst P (waits counted_in) held.counts in
+    let P : List Counted → Type 0 = λ cs. AreCounted p (counted_in old.frame ∷ cs) in subst P (waits counted_in) held.counts in
     let k : Memory = closed first (length (objects_of p.structs (variables_of p old.frame.function))) m in
     let holds : Holds s (opened_in caller ∷ reverse (map opened_in few.items)) k =
-        let P : ℕ → Type 0 = λ c. Holds s (opened_in caller ∷ reverse (map opened_in few.items)) (closed first c m) in
-        subst P counts.0 (closes (opened_in caller ∷ reverse (map opened_in few.items)) m
-        (let Q : List Opened → Type 0 = λ os. Holds old.store (opened_in old.frame ∷ os) m in subst Q (waits opened_in) held.store)) in
-    (k, (record { store = holds; counts = counts.1 }, λ i.
-    ap (λ fs. returned_to fs (reverse old.operands.items) (record { value = value_at_end (old.frame.function == p.main) (flow_of old.flow); memory = k; input = i })) (waits frame_of)
-    ∙ ap (λ v. give_run (Some v) (config_of (back_in old caller few s) k i)) (sym is))))
+    let P : ℕ → Type 0 = λ c. Holds s (opened_in caller ∷ reverse (map opened_in few.items)) (closed first c m) in
+    subst P counts.0 (closes (opened_in caller ∷ reverse (map opened_in few.items)) m
+    (let Q : List Opened → Type 0 = λ os. Holds old.store (opened_in old.frame ∷ os) m in subst Q (waits opened_in) held.store)) in (
+      k,
+      (
+        record { store = holds; counts = counts.1 },
+        λ i.
+            ap (λ fs. returned_to fs (reverse old.operands.items) (record { value = value_at_end (old.frame.function == p.main) (flow_of old.flow); memory = k; input = i })) (waits frame_of)
+            ∙ ap (λ v. give_run (Some v) (config_of (back_in old caller few s) k i)) (sym is),
+      ),
+    ))
     step
 
 -- no caller waits

@@ -4,3 +4,6 @@ mod Reached
 mod Operators
 mod Statements
 mod CallSteps
+mod Layouts
+mod Groups
+mod Arguments

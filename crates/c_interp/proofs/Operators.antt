@@ -117,9 +117,10 @@ set_in k w y = with_frame_slots y (slice_set y.frame.slots k (holds w))
 
 pub slot-gives : (t : TypeTree) (k : ℕ) (y : Configuration) → then_on (spot_read t (in_slot k) (state_of y)) (gives_value y) ≡ give_run (slot_read (slice_get y.frame.slots k)) y
 slot-gives t k y =
-    elim (slice_get y.frame.slots k) as (λ o. then_on (used (slot_value o) (gives (state_of y))) (gives_value y) ≡ give_run (slot_read o) y)
-    [ None ↦ refl
-    | Some s ↦ elim s as (λ q. then_on (used (slot_value (Some q)) (gives (state_of y))) (gives_value y) ≡ give_run (slot_read (Some q)) y) [ holds v ↦ used-gives v y | object j ↦ refl ] ]
+    elim (slice_get y.frame.slots k) as (λ o. then_on (used (slot_value o) (gives (state_of y))) (gives_value y) ≡ give_run (slot_read o) y) [
+      | None ↦ refl
+      | Some s ↦ elim s as (λ q. then_on (used (slot_value (Some q)) (gives (state_of y))) (gives_value y) ≡ give_run (slot_read (Some q)) y) [ holds v ↦ used-gives v y | object j ↦ refl ]
+    ]
 
 pub set-gives : (t : TypeTree) (k : ℕ) (v : Value) (y : Configuration) →
     used v (λ w. then_on (spot_written t (in_slot k) w (state_of y)) (gives_value y)) ≡ set_run k (used_value v) None y

@@ -1,9 +1,8 @@
 -- Where a run of the code has come to after some tasks, and how it ends there.
-use Rattle.std.proofs.Common.{◌≡◌, ℕ, ◌+◌, Bool, true, false, List, [], ◌∷◌, ◌++◌, length, map, take, refl, sym, ap, ap₂, ◌∙◌, subst, append_assoc, arith}
+use Rattle.std.proofs.Common.{Vec, Global, ◌≡◌, ℕ, ◌+◌, Bool, true, false, List, [], ◌∷◌, ◌++◌, length, map, take, refl, sym, ap, ap₂, ◌∙◌, subst, append_assoc, arith}
 use Rattle.std.specs.Prelude.{Option, None, Some, Result, Ok, Err}
 use Rattle.std.proofs.lemmas.Bool.{false≢true}
 use Rattle.std.proofs.lemmas.List.{length-append}
-use Rattle.std.specs.declared.vec.Vec.{Vec}
 use Rattle.val_core.specs.Memory.{Memory}
 use Rattle.val_core.specs.Events.{Event, output}
 use Rattle.val_core.specs.Answers.{Answer, Returned, Cut, Exited, Undefined, before, then_on}
@@ -79,7 +78,7 @@ last-first p n many few t r e =
     ∙ ap (λ ts. tasks_run p n ts r) (tasks-last few t)
     ∙ tasks-append p n (tasks_of few) (task_of t ∷ []) r
 
-pub reached_more : (p : ProgramTree) (n : ℕ) (first : Port) (m : Machine) (few : Vec Task) (t : Task) (new : Machine) (now last : Port) →
+pub reached_more : (p : ProgramTree) (n : ℕ) (first : Port) (m : Machine) (few : Vec Task Global) (t : Task) (new : Machine) (now last : Port) →
     IsReached p n first m now → m.tasks.items ≡ few.items ++ t ∷ [] →
     ((k : Memory) → IsHeld p (with_tasks m few) k → IsDoneAt p n (with_tasks m few) new (λ i. task_from p n (task_of t) (flow_of m.flow) (config_of (with_tasks m few) k i)) now last) →
     IsReached p n first new last
@@ -141,8 +140,10 @@ heard-to p n first m now r = r.to (known now.left) (λ c. at-end-known now.left 
 -- what was heard so far ended so
 some-run : (p : ProgramTree) (n : ℕ) (first : Port) (m : Machine) (now last : Port) (r : IsReached p n first m now) (e : run.Ending) → AreLeft now last →
     heard n p (r.bytes ++ known now.left) ≡ heard_with (output r.did) (known now.left) e → IsSomeRun n p e (streams first) (streams last)
-some-run p n first m now last r e same is =
-    (r.bytes ++ known now.left, (is-input first.left now.left r.bytes r.left,
+some-run p n first m now last r e same is = (
+  r.bytes ++ known now.left,
+  (
+    is-input first.left now.left r.bytes r.left,
     record {
       ending = ap (λ h. h.ending) is;
       output = same.held ∙ r.held ∙ ap (λ h. append first.held h.output) (sym is);
@@ -150,21 +151,27 @@ some-run p n first m now last r e same is =
       rest = r.left ∙ ap (prepend r.bytes) (sym same.left);
       unread = let P : Option (List ℕ) → Type 0 = λ l. IsLeft l ((heard n p (r.bytes ++ known now.left)).rest) in
           subst P (sym same.left) (let Q : List ℕ → Type 0 = IsLeft now.left in subst Q (sym (ap (λ h. h.rest) is)) (is-known now.left));
-    }))
+    },
+  ),
+)
 
 -- the run was given up
 pub part : (p : ProgramTree) (n : ℕ) (first : Port) (m : Machine) (now last : Port) (r : IsReached p n first m now) → AreLeft now last → IsPart n p (streams first) (streams last)
 part p n first m now last r same =
     let input : List ℕ = r.bytes ++ known now.left in
-    let more : Answer Reached = tasks_run p n (tasks_of m.tasks.items) (reached_of m r.memory (known now.left)) in
-    (input, (is-input first.left now.left r.bytes r.left,
-    record {
-      written = length (output r.did);
-      output = same.held ∙ r.held
-          ∙ ap (append first.held) (sym (ap (λ h. take (length (output r.did)) h.output) (heard-to p n first m now r) ∙ written-first input r.did more));
-      taken = r.bytes;
-      rest = r.left ∙ ap (prepend r.bytes) (sym same.left);
-    }))
+    let more : Answer Reached = tasks_run p n (tasks_of m.tasks.items) (reached_of m r.memory (known now.left)) in (
+      input,
+      (
+        is-input first.left now.left r.bytes r.left,
+        record {
+          written = length (output r.did);
+          output = same.held ∙ r.held
+              ∙ ap (append first.held) (sym (ap (λ h. take (length (output r.did)) h.output) (heard-to p n first m now r) ∙ written-first input r.did more));
+          taken = r.bytes;
+          rest = r.left ∙ ap (prepend r.bytes) (sym same.left);
+        },
+      ),
+    )
 
 left-itself : (now : Port) → AreLeft now now
 left-itself now = record { held = refl; left = refl }
@@ -181,7 +188,7 @@ all_done p n first m now r e =
     ∙ ap (λ ts. heard_as (r.bytes ++ known now.left) (before r.did (tasks_run p n (tasks_of ts) (reached_of m r.memory (known now.left))))) e
     ∙ heard-returned r.did r.bytes (known now.left) (reached_of m r.memory (known now.left)) r.count)
 
-module _ (p : ProgramTree) (n : ℕ) (first : Port) (m : Machine) (few : Vec Task) (t : Task) (now last : Port) (r : IsReached p n first m now) (popped : m.tasks.items ≡ few.items ++ t ∷ []) (same : AreLeft now last) where
+module _ (p : ProgramTree) (n : ℕ) (first : Port) (m : Machine) (few : Vec Task Global) (t : Task) (now last : Port) (r : IsReached p n first m now) (popped : m.tasks.items ≡ few.items ++ t ∷ []) (same : AreLeft now last) where
   abbrev here : List ℕ
   here = known now.left
 

@@ -1,8 +1,7 @@
 -- What tasks of statements do: parts that become tasks, loops, jumps, and variables that begin.
-use Rattle.std.proofs.Common.{◌≡◌, ℕ, suc, zero, true, false, List, [], ◌∷◌, refl, sym, ap, absurd}
+use Rattle.std.proofs.Common.{Vec, Global, ◌≡◌, ℕ, suc, zero, true, false, List, [], ◌∷◌, refl, sym, ap, absurd}
 use Rattle.std.specs.Prelude.{Option, None, Some, option_map, Ok, Err}
 use Rattle.std.proofs.lemmas.Bool.{false≢true}
-use Rattle.std.specs.declared.vec.Vec.{Vec}
 use Rattle.val_core.specs.declared.values.Value.{Value}
 use Rattle.val_core.specs.declared.values.Value.TheVariants.{Num, At, Bad}
 use Rattle.val_core.specs.Memory.{Memory, store, cleared_at}
@@ -110,7 +109,7 @@ leaves-returned p n k tree.return_none v x e = absurd (false≢true e)
 leaves-returned p n k (tree.switch c gs) v x e = absurd (false≢true e)
 
 -- a turn was put
-pub turn_put : (p : ProgramTree) (n : ℕ) (u : Unit) (old : Machine) (many : Vec Left) (o : Option (List Task)) (run : Configuration → Answer Reached) → old.flow ≡ Normal →
+pub turn_put : (p : ProgramTree) (n : ℕ) (u : Unit) (old : Machine) (many : Vec Left Global) (o : Option (List Task)) (run : Configuration → Answer Reached) → old.flow ≡ Normal →
     IsTurn o (tasks_of old.tasks.items) (tasks_of many.items) true → ((x : Configuration) → run x ≡ turns_do p n o x) → IsStep p n (Ok u) old (with_tasks old many) run
 turn_put p n u old many None run e turn does = absurd (false≢true (sym turn))
 turn_put p n u old many (Some ts) run e turn does = put_step p n u old many ts run e turn.1 (λ m i. does (config_of old m i))

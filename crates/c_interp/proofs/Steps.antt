@@ -1,8 +1,7 @@
 -- Steps of which the task is a part: operands that were taken before it, and tasks that come after it.
-use Rattle.std.proofs.Common.{◌≡◌, ℕ, ◌+◌, ◌<◌, List, [], ◌∷◌, ◌++◌, map, reverse, length, vec_len, refl, sym, ap, ◌∙◌, subst, absurd, arith}
+use Rattle.std.proofs.Common.{Vec, Global, ◌≡◌, ℕ, ◌+◌, ◌<◌, List, [], ◌∷◌, ◌++◌, map, reverse, length, vec_len, refl, sym, ap, ◌∙◌, subst, absurd, arith}
 use Rattle.std.specs.Prelude.{Option, None, Some, Result, Ok, Err}
 use Rattle.std.proofs.lemmas.List.{append-nil, reverse-append}
-use Rattle.std.specs.declared.vec.Vec.{Vec}
 use Rattle.val_core.specs.declared.values.Value.{Value}
 use Rattle.val_core.specs.Memory.{Memory}
 use Rattle.val_core.specs.Events.{Event}
@@ -78,10 +77,10 @@ same_step p n (Err s) old new run run' e step m held i = stopped-same s (run (co
 
 -- ---- operands that were taken
 
-abbrev pub with_ops : Machine → Vec Value → Machine
+abbrev pub with_ops : Machine → Vec Value Global → Machine
 with_ops m vs = record { tasks = m.tasks; operands = vs; frame = m.frame; callers = m.callers; flow = m.flow; store = m.store }
 
-abbrev pub with_tasks : Machine → Vec Left → Machine
+abbrev pub with_tasks : Machine → Vec Left Global → Machine
 with_tasks m ts = record { tasks = ts; operands = m.operands; frame = m.frame; callers = m.callers; flow = m.flow; store = m.store }
 
 -- the newest operands first
@@ -95,7 +94,7 @@ pub newest-three : (few many : List Value) (a b c : Value) → many ≡ few ++ (
 newest-three few many a b c e = ap reverse e ∙ reverse-append few (a ∷ b ∷ c ∷ [])
 
 -- a task that takes operands, and what it does with them, on a machine that has them no more
-pub taken : (p : ProgramTree) (n : ℕ) (r : Result Unit Stop) (old new : Machine) (few : Vec Value) (vs : List Value) (run run' : Configuration → Answer Reached) →
+pub taken : (p : ProgramTree) (n : ℕ) (r : Result Unit Stop) (old new : Machine) (few : Vec Value Global) (vs : List Value) (run run' : Configuration → Answer Reached) →
     reverse old.operands.items ≡ vs ++ reverse few.items →
     ((m : Memory) (i : List ℕ) → IsHeld p old m → run (with_operands (config_of old m i) (vs ++ reverse few.items)) ≡ run' (config_of (with_ops old few) m i)) →
     IsStep p n r (with_ops old few) new run' → IsStep p n r old new run
@@ -172,7 +171,7 @@ pub nothing_step : (p : ProgramTree) (n : ℕ) (u : Unit) (m : Machine) → m.fl
 nothing_step p n u m e k held = done_at_once p n m m (λ i. nothing_run (config_of m k i)) k refl held (λ i. ap (λ f. reaches (flow_of f) (config_of m k i)) (sym e))
 
 -- tasks that were put
-pub put_step : (p : ProgramTree) (n : ℕ) (u : Unit) (old : Machine) (many : Vec Left) (ts : List Task) (run : Configuration → Answer Reached) → old.flow ≡ Normal →
+pub put_step : (p : ProgramTree) (n : ℕ) (u : Unit) (old : Machine) (many : Vec Left Global) (ts : List Task) (run : Configuration → Answer Reached) → old.flow ≡ Normal →
     tasks_of many.items ≡ tasks_of old.tasks.items ++ ts → ((m : Memory) (i : List ℕ) → run (config_of old m i) ≡ tasks_run p n ts (normally (config_of old m i))) →
     IsStep p n (Ok u) old (with_tasks old many) run
 put_step p n u old many ts run e tasks does m held =

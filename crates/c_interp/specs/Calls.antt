@@ -1,30 +1,19 @@
 -- How a call begins.
-use Rattle.std.specs.Prelude.{◌≡◌, ◌-◌, ℕ, List, [], ◌∷◌, ◌++◌, map, drop, length, reverse, Option, None, Some, Result, Ok, Err}
+use Rattle.std.specs.Prelude.{◌≡◌, ◌-◌, ℕ, List, [], ◌∷◌, ◌++◌, map, drop, length, reverse, None, Some, Result, Ok, Err}
 use Rattle.val_core.specs.Memory.{Memory}
 use Rattle.c_typed.specs.Typed.{FunctionTree, ProgramTree}
 use Rattle.c_typed.specs.WellTyped.{params_of}
 use Rattle.c_mean.specs.Run.{objects_of, params_in_scope}
-use Rattle.c_interp_store.specs.declared.store.Store.{Store}
-use Rattle.c_interp_store.specs.Holding.{Opened, Holds}
-use Rattle.c_interp_def.specs.declared.task.Slot.{Slot}
+use Rattle.c_interp_store.specs.Holding.{Holds}
 use Rattle.c_interp_def.specs.Configurations as def
 use Rattle.c_interp_def.specs.ExprTasks.{newest}
 use Rattle.c_interp_def.specs.CallLaws.{call_tasks, call_memory}
 use Rattle.c_interp_expand.specs.TaskViews.{tasks_of}
-use Rattle.std.specs.declared.vec.Vec.{Vec}
 use Rattle.c_interp.specs.declared.stop.Stop.{Stop}
 use Rattle.c_interp.specs.declared.stop.Stop.TheVariants as stop
 use Rattle.c_interp.specs.declared.frame.Frame.{Frame}
 use Rattle.c_interp.specs.declared.machine.Machine.{Machine}
 use Rattle.c_interp.specs.Machines.{frame_of, opened_in, config_of, IsHeld}
-
--- The memory is as told, where that is defined. Nothing is said where memory is out.
-abbrev pub AreTaken : List Opened → Option Memory → Store → Result (Vec Slot) Stop → Type 0
-AreTaken calls None s (Ok slots) = ⊥
-AreTaken calls (Some m) s (Ok slots) = Holds s calls m
-AreTaken calls m s (Err stop.Undefined) = m ≡ None
-AreTaken calls m s (Err stop.NoMemory) = Unit {0}
-AreTaken calls m s (Err r) = ⊥
 
 -- the frame of a call that begins where the machine held this memory
 pub record BeginsCall (p : ProgramTree) (f count : ℕ) (fn : FunctionTree) (old new : Machine) (frame : Frame) (m : Memory) : Type 0 where

@@ -153,9 +153,9 @@ slot_begun vs k None = None
 slot_begun vs k (Some v) = Some (if v.is_object then object (object_number vs k) else holds Bad)
 
 -- The memory is as told, where that is defined. Nothing is said where memory is out.
-abbrev pub IsStored : List Opened → Option Memory → Store → Result Unit Stop → Type 0
-IsStored calls None s (Ok u) = ⊥
-IsStored calls (Some m) s (Ok u) = Holds s calls m
+abbrev pub IsStored : {X : Type 0} → List Opened → Option Memory → Store → Result X Stop → Type 0
+IsStored calls None s (Ok x) = ⊥
+IsStored calls (Some m) s (Ok x) = Holds s calls m
 IsStored calls m s (Err stop.Undefined) = m ≡ None
 IsStored calls m s (Err stop.NoMemory) = Unit {0}
 IsStored calls m s (Err r) = ⊥

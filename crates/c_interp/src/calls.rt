@@ -14,8 +14,8 @@ ghost use Rattle.c_interp_def.specs.ExprTasks as task;
 ghost use Rattle.c_interp_def.specs.ExprTasks.{expr_task_run};
 ghost use Rattle.c_interp_def.specs.StmtTasks as stmt;
 ghost use Rattle.c_interp_def.specs.StmtTasks.{handler_run};
-ghost use Rattle.c_interp.specs.Steps.{IsStep};
-ghost use Rattle.c_interp.specs.Calls.{AreTaken, IsFrame, IsEntered};
+ghost use Rattle.c_interp.specs.Steps.{IsStep, IsStored};
+ghost use Rattle.c_interp.specs.Calls.{IsFrame, IsEntered};
 
 use crate::frame::Frame;
 use crate::machine::{Machine, Program};
@@ -107,7 +107,7 @@ fn take_arguments<'a>(
     requires there { slice_get program.typed.now.functions function ≡ Some f.now }
     requires fit { first < 2 ^ 63 }
     ensures stored { (calls : List Opened) (m : Memory) → Holds store.old calls m →
-        AreTaken calls (params_stored (address_in first
+        IsStored calls (params_stored (address_in first
         (object_sizes program.typed.now (variables_of program.typed.now function)))
         0 (params_of f.now) arguments.now m) store.new result }
     ensures slots { IfOk result (λ slots. slots_of slots.items
