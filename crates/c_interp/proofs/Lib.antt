@@ -2,8 +2,11 @@ mod Heard
 mod Steps
 mod Reached
 mod Operators
+mod ExprSteps
+mod StmtSteps
 mod Statements
 mod CallSteps
 mod Layouts
 mod Groups
 mod Arguments
+mod Streams

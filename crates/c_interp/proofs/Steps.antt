@@ -9,7 +9,7 @@ use Rattle.val_core.specs.Answers.{Answer, Returned, Cut, Exited, Undefined, the
 use Rattle.c_typed.specs.Typed.{ProgramTree}
 use Rattle.c_mean.specs.Run.{heard_as}
 use Rattle.c_interp_store.specs.declared.store.Store.{Store}
-use Rattle.c_interp_store.specs.Holding.{Holds}
+use Rattle.c_interp_store.specs.Holding.{Opened, Holds}
 use Rattle.c_mean.specs.Statements.{normal}
 use Rattle.c_interp_def.specs.Configurations.{Configuration, Reached, reaches, with_operands, on_operands, on_three}
 use Rattle.c_interp_def.specs.Laws.{normally}
@@ -74,6 +74,10 @@ pub same_step : (p : ProgramTree) (n : ℕ) (r : Result Unit Stop) (old new : Ma
 same_step p n (Ok u) old new run run' e step m held =
     done-same p n old new (λ i. run (config_of old m i)) (λ i. run' (config_of old m i)) (λ i. e m i held) (step m held)
 same_step p n (Err s) old new run run' e step m held i = stopped-same s (run (config_of old m i)) (run' (config_of old m i)) (e m i held) (step m held i)
+
+-- the blocks of the calls of a machine, of which the newest stands first
+abbrev pub calls_in : Machine → List Opened
+calls_in m = opened_in m.frame ∷ reverse (map opened_in m.callers.items)
 
 -- ---- operands that were taken
 
@@ -185,7 +189,7 @@ abbrev pub with_store : Machine → Store → Machine
 with_store m s = record { tasks = m.tasks; operands = m.operands; frame = m.frame; callers = m.callers; flow = m.flow; store = s }
 
 pub changed_step : (p : ProgramTree) (n : ℕ) (u : Unit) (old : Machine) (s : Store) (run : Configuration → Answer Reached) → old.flow ≡ Normal →
-    ((m : Memory) → IsHeld p old m → (k : Memory) × Holds s (opened_in old.frame ∷ reverse (map opened_in old.callers.items)) k × ((i : List ℕ) → run (config_of old m i) ≡ reaches normal (config_of old k i))) →
+    ((m : Memory) → IsHeld p old m → (k : Memory) × Holds s (calls_in old) k × ((i : List ℕ) → run (config_of old m i) ≡ reaches normal (config_of old k i))) →
     IsStep p n (Ok u) old (with_store old s) run
 changed_step p n u old s run e changes m held =
     let (k, holds, does) = changes m held in

@@ -19,7 +19,7 @@ use Rattle.c_interp.specs.declared.stop.Stop.{Stop}
 use Rattle.c_interp.specs.declared.stop.Stop.TheVariants as stop
 use Rattle.c_interp.specs.declared.machine.Machine.{Machine}
 use Rattle.c_interp.specs.Machines.{config_of, reached_of, IsHeld}
-use Rattle.c_interp.specs.Steps.{IsStopped}
+use Rattle.c_interp.specs.Steps.{IsStopped, number}
 
 -- what the output holds, what the input has left, and whether its end was met
 pub record Port : Type 0 where
@@ -66,14 +66,10 @@ IsStepAt p n (Ok u) old new run first last reads writes =
 IsStepAt p n (Err s) old new run first last reads writes =
     AreLeft first last × ((m : Memory) → IsHeld p old m → (i : List ℕ) → IsStoppedAt reads writes s (run (config_of old m i)))
 
-abbrev pub IsNoNumber : Value → Type 0
-IsNoNumber (Num w) = ⊥
-IsNoNumber v = Unit {0}
-
 -- The newest operand is a number, in whose place its last byte stands. Nothing is said where memory is out.
 abbrev pub IsByte : Result ℕ Stop → (old new : List Value) → Type 0
 IsByte (Ok byte) old new = (w : ℕ) × (few : List Value) × (byte ≡ w % 256) × (old ≡ few ++ Num w ∷ []) × (new ≡ few ++ Num byte ∷ [])
-IsByte (Err stop.Undefined) old new = (old ≡ []) ⊎ ((few : List Value) × (v : Value) × (old ≡ few ++ v ∷ []) × IsNoNumber v)
+IsByte (Err stop.Undefined) old new = (old ≡ []) ⊎ ((few : List Value) × (v : Value) × (old ≡ few ++ v ∷ []) × (number v ≡ None))
 IsByte (Err stop.NoMemory) old new = Unit {0}
 IsByte (Err s) old new = ⊥
 

@@ -105,6 +105,11 @@ set_run k v given x =
 
 -- ---- values
 
+-- the number that a value is
+abbrev pub number : Value → Option ℕ
+number (Num w) = Some w
+number v = None
+
 abbrev pub bit_of : Bool → Value
 bit_of b = Num (one_if b)
 

@@ -28,8 +28,8 @@ use val_core::Value;
 // The slot of a variable of a function as it comes into scope.
 fn slot_begun<'a>(program: Program<'a>, function: u32, variable: u32) -> Option<Slot>
     ensures { option_map slot_of result
-        ≡ slot_begun (variables_of program.typed.now function) variable
-        (slice_get (variables_of program.typed.now function) variable) }
+        ≡ slot_begun (variables_of program.entry.typed.now function) variable
+        (slice_get (variables_of program.entry.typed.now function) variable) }
 {
     let numbers = numbers(program, function);
     match variables(program, function).get(variable as usize) {
@@ -46,8 +46,8 @@ pub(crate) fn enter<'a>(
     variable: u32,
 ) -> Result<(), Stop>
     requires { machine.old.flow ≡ Normal }
-    ensures { (n : ℕ) → IsStep program.typed.now n result machine.old machine.new
-        (stmt_task_run program.typed.now n (stmt.enter variable)) }
+    ensures { (n : ℕ) → IsStep program.entry.typed.now n result machine.old machine.new
+        (stmt_task_run program.entry.typed.now n (stmt.enter variable)) }
 {
     let Some(slot) = slot_begun(program, machine.frame.function, variable) else {
         return Err(Stop::Undefined);
@@ -81,8 +81,8 @@ pub(crate) fn begin_object<'a>(
     t: &CType,
 ) -> Result<(), Stop>
     requires { machine.old.flow ≡ Normal }
-    ensures { (n : ℕ) → IsStep program.typed.now n result machine.old machine.new
-        (stmt_task_run program.typed.now n (stmt.begin_object number t.now)) }
+    ensures { (n : ℕ) → IsStep program.entry.typed.now n result machine.old machine.new
+        (stmt_task_run program.entry.typed.now n (stmt.begin_object number t.now)) }
 {
     let Some(v) = machine.operands.pop() else {
         return Err(Stop::Undefined);
@@ -98,8 +98,8 @@ pub(crate) fn clear_object<'a>(
     number: u32,
 ) -> Result<(), Stop>
     requires { machine.old.flow ≡ Normal }
-    ensures { (n : ℕ) → IsStep program.typed.now n result machine.old machine.new
-        (stmt_task_run program.typed.now n (stmt.clear_object number)) }
+    ensures { (n : ℕ) → IsStep program.entry.typed.now n result machine.old machine.new
+        (stmt_task_run program.entry.typed.now n (stmt.clear_object number)) }
 {
     let at = object_at(machine, program, number);
     if machine.store.clear(at) {
@@ -131,8 +131,8 @@ pub(crate) fn begin_element<'a>(
     t: &CType,
 ) -> Result<(), Stop>
     requires { machine.old.flow ≡ Normal }
-    ensures { (n : ℕ) → IsStep program.typed.now n result machine.old machine.new
-        (stmt_task_run program.typed.now n (stmt.begin_element number offset t.now)) }
+    ensures { (n : ℕ) → IsStep program.entry.typed.now n result machine.old machine.new
+        (stmt_task_run program.entry.typed.now n (stmt.begin_element number offset t.now)) }
 {
     let Some(v) = machine.operands.pop() else {
         return Err(Stop::Undefined);
@@ -178,8 +178,8 @@ pub(crate) fn begin_characters<'a>(
     characters: &'a Bytes,
 ) -> Result<(), Stop>
     requires { machine.old.flow ≡ Normal }
-    ensures { (n : ℕ) → IsStep program.typed.now n result machine.old machine.new
-        (stmt_task_run program.typed.now n (stmt.begin_characters number offset characters.now)) }
+    ensures { (n : ℕ) → IsStep program.entry.typed.now n result machine.old machine.new
+        (stmt_task_run program.entry.typed.now n (stmt.begin_characters number offset characters.now)) }
 {
     let object = object_at(machine, program, number);
     store_characters(&mut machine.store, object, offset, characters.as_slice())

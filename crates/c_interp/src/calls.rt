@@ -1,6 +1,7 @@
 //! Calls that begin and end (ISO/IEC 9899:2011, 6.5.2.2, 6.9.1).
 
-ghost use Rattle.std.specs.Prelude.{◌≡◌, ℕ, ◌<◌, ◌^◌, Some, List, IfOk, slice_get};
+ghost use Rattle.std.specs.Prelude.{◌≡◌, ℕ, ◌<◌, ◌^◌, Some, List, IfOk, length, slice_get, slice_index_or};
+ghost use Rattle.val_core.specs.declared.values.Value.TheVariants.{Bad};
 ghost use Rattle.val_core.specs.Memory.{Memory};
 ghost use Rattle.val_core.specs.Objects.{address_in};
 ghost use Rattle.c_typed.specs.WellTyped.{params_of};
@@ -21,10 +22,11 @@ use crate::frame::Frame;
 use crate::machine::{Machine, Program};
 use crate::operands::give;
 use crate::stop::Stop;
+use crate::variable::address_of;
 use c_interp_def::{Flow, Handler, Slot, StmtTask, Task};
 use c_interp_store::Store;
 use c_interp_value::access_width;
-use c_typed::TFunction;
+use c_typed::{TFunction, Variable};
 use std::alloc::Global;
 use std::mem::replace;
 use val_core::Value;
@@ -41,8 +43,8 @@ pub(crate) fn call<'a>(
     count: usize,
 ) -> Result<(), Stop>
     requires { machine.old.flow ≡ Normal }
-    ensures { (n : ℕ) → IsStep program.typed.now n result machine.old machine.new
-        (expr_task_run program.typed.now n (task.call function count)) }
+    ensures { (n : ℕ) → IsStep program.entry.typed.now n result machine.old machine.new
+        (expr_task_run program.entry.typed.now n (task.call function count)) }
 {
     if machine.frame.depth == 0 {
         return Err(Stop::Cut);
@@ -65,7 +67,7 @@ fn frame_of<'a>(
 ) -> Result<Frame, Stop>
     requires there { slice_get program.typed.now.functions function ≡ Some f.now }
     requires depth { 0 < machine.old.frame.depth }
-    ensures { IsFrame program.typed.now function count f.now machine.old machine.new result }
+    ensures { IsFrame program.entry.typed.now function count f.now machine.old machine.new result }
 {
     let Some(layout) = program.layouts.functions.get(function as usize) else {
         return Err(Stop::Undefined);
@@ -75,12 +77,13 @@ fn frame_of<'a>(
         return Err(Stop::NoMemory);
     }
     let first = machine.operands.len().saturating_sub(count);
+    let params = (f.params as usize).min(f.variables.len());
     let slots = take_arguments(
         alloc,
         program,
         function,
         objects.first,
-        f,
+        &f.variables[..params],
         &machine.operands[first..],
         &mut machine.store,
     )?;
@@ -100,29 +103,27 @@ fn take_arguments<'a>(
     program: Program<'a>,
     function: u32,
     first: u64,
-    f: &TFunction,
+    params: &[Variable],
     arguments: &[Value],
     store: &mut Store,
 ) -> Result<Vec<Slot>, Stop>
-    requires there { slice_get program.typed.now.functions function ≡ Some f.now }
     requires fit { first < 2 ^ 63 }
+    requires few { length params.now < 2 ^ 32 }
     ensures stored { (calls : List Opened) (m : Memory) → Holds store.old calls m →
         IsStored calls (params_stored (address_in first
-        (object_sizes program.typed.now (variables_of program.typed.now function)))
-        0 (params_of f.now) arguments.now m) store.new result }
+        (object_sizes program.entry.typed.now (variables_of program.entry.typed.now function)))
+        0 params.now arguments.now m) store.new result }
     ensures slots { IfOk result (λ slots. slots_of slots.items
-        ≡ params_in_scope 0 (params_of f.now) arguments.now) }
+        ≡ params_in_scope 0 params.now arguments.now) }
 {
     let mut slots = Vec::new(alloc);
     let mut number = 0;
-    for i in 0..(f.params as usize).min(f.variables.len()) {
-        let v = match arguments.get(i) {
-            Some(v) => *v,
-            None => Value::Bad,
-        };
-        if f.variables[i].is_object {
-            let at = program.layouts.object(function, first, number);
-            if !store.store(access_width(&f.variables[i].ty), at, v) {
+    for i in 0..params.len() {
+        let v = argument_at(arguments, i);
+        let p = &params[i];
+        if p.is_object {
+            let at = address_of(program, function, first, number);
+            if !store.store(access_width(&p.ty), at, v) {
                 return Err(Stop::Undefined);
             }
             slots.push(Slot::Object(number))?;
@@ -132,6 +133,16 @@ fn take_arguments<'a>(
         }
     }
     Ok(slots)
+}
+
+// An argument; `Bad` where there is none.
+fn argument_at(arguments: &[Value], i: usize) -> Value
+    ensures { result ≡ slice_index_or arguments.now i Bad }
+{
+    match arguments.get(i) {
+        Some(v) => *v,
+        None => Value::Bad,
+    }
 }
 
 // The call begins, and its caller waits.
@@ -162,8 +173,8 @@ fn value_at_end(is_main: bool, flow: Flow) -> Value
 
 /// The newest call has ended: the caller goes on with its value.
 pub(crate) fn end_call<'a>(machine: &mut Machine<'a>, program: Program<'a>) -> Result<(), Stop>
-    ensures { (n : ℕ) → IsStep program.typed.now n result machine.old machine.new
-        (handler_run program.typed.now n stmt.end_call (flow_of machine.old.flow)) }
+    ensures { (n : ℕ) → IsStep program.entry.typed.now n result machine.old machine.new
+        (handler_run program.entry.typed.now n stmt.end_call (flow_of machine.old.flow)) }
 {
     let value = value_at_end(machine.frame.function == program.typed.main, machine.flow);
     let Some(caller) = machine.callers.pop() else {

@@ -64,7 +64,7 @@ pub fn interpret<I: Source, O: Sink>(
 fn machine_of<'a>(alloc: Global, program: Program<'a>) -> Result<Machine<'a>, NoMemory>
     requires typed { IsWellTyped program.typed.now }
     requires most { program.bound ≤ 1000000 }
-    ensures { IfOk result (HasBegun program.typed.now program.bound) }
+    ensures { IfOk result (HasBegun program.entry.typed.now program.entry.bound) }
 {
     let typed = program.typed;
     let store = first_memory(alloc, typed, program.layouts)?;
@@ -99,12 +99,12 @@ fn run<'a, I: Source, O: Sink>(
 ) -> Result<Ending, NoMemory>
     requires { HasBegun program.typed.now program.bound machine.old }
     ensures ends { MatchResult result
-        (HasEnded program.bound program.typed.now
+        (HasEnded program.entry.bound program.entry.typed.now
         (record { held = O.held output.old; left = I.left input.old })
         (record { held = O.held output.new; left = I.left input.new })
         (Increased (I.faults input.old) (I.faults input.new))
         (Increased (O.faults output.old) (O.faults output.new)))
-        (λ _. IsPart program.bound program.typed.now
+        (λ _. IsPart program.entry.bound program.entry.typed.now
         (record { held = O.held output.old; left = I.left input.old })
         (record { held = O.held output.new; left = I.left input.new })) }
     ensures read_faults { I.faults input.old ≤ I.faults input.new }

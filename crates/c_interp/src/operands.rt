@@ -3,7 +3,7 @@
 ghost use Rattle.std.specs.Prelude.{◌≡◌, ◌∷◌, ◌++◌, ◌<◌, [], ℕ, IfSome, IfNone, length};
 ghost use Rattle.c_typed.specs.Typed.{ProgramTree};
 ghost use Rattle.c_interp_def.specs.declared.task.Flow.TheVariants.{Normal};
-ghost use Rattle.c_interp.specs.Steps.{IsStep, give_run, write_run, store_run};
+ghost use Rattle.c_interp.specs.Steps.{IsStep, number, give_run, write_run, store_run};
 
 use crate::machine::Machine;
 use crate::stop::Stop;
@@ -33,6 +33,16 @@ pub(crate) fn three(operands: &mut Vec<Value>) -> Option<(Value, Value, Value)>
     let b = operands.pop()?;
     let a = operands.pop()?;
     Some((a, b, c))
+}
+
+/// The number that a value is, where it is one.
+pub(crate) fn number(v: Value) -> Option<u32>
+    ensures { result ≡ number v }
+{
+    match v {
+        Value::Num(w) => Some(w),
+        Value::At { .. } | Value::Bad => None,
+    }
 }
 
 /// The value becomes an operand, where there is one.

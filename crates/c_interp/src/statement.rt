@@ -14,17 +14,16 @@ ghost use Rattle.c_interp_layout.specs.Laid.{AreNumbers};
 ghost use Rattle.c_interp.specs.Steps.{IsStep};
 
 use crate::machine::{Machine, Program};
+use crate::operands::number;
 use crate::push::{choose, put};
 use crate::stop::Stop;
 use c_interp_def::{Flow, Slot, Stage, StmtTask, Task};
-use c_interp_expand::turn;
 use c_interp_value::{truth, used};
 use c_typed::{Group, Item, StmtForm, TStmt, Variable};
-use val_core::Value;
 
 /// The variables of a function; none where there is no function of this number.
 pub(crate) fn variables<'a>(program: Program<'a>, function: u32) -> &'a [Variable]
-    ensures { result.now ≡ variables_of program.typed.now function }
+    ensures { result.now ≡ variables_of program.entry.typed.now function }
 {
     match program.typed.functions.get(function as usize) {
         Some(f) => &f.variables,
@@ -34,8 +33,8 @@ pub(crate) fn variables<'a>(program: Program<'a>, function: u32) -> &'a [Variabl
 
 /// Their numbers among the objects.
 pub(crate) fn numbers<'a>(program: Program<'a>, function: u32) -> &'a [u32]
-    ensures { AreNumbers (variables_of program.typed.now function)
-        (length (variables_of program.typed.now function)) result.now }
+    ensures { AreNumbers (variables_of program.entry.typed.now function)
+        (length (variables_of program.entry.typed.now function)) result.now }
 {
     match program.layouts.functions.get(function as usize) {
         Some(layout) => &layout.numbers,
@@ -50,8 +49,8 @@ pub(crate) fn run_items<'a>(
     items: &'a [Item],
 ) -> Result<(), Stop>
     requires { machine.old.flow ≡ Normal }
-    ensures { (n : ℕ) → IsStep program.typed.now n result machine.old machine.new
-        (stmt_task_run program.typed.now n (stmt.run_items (items_of items.now))) }
+    ensures { (n : ℕ) → IsStep program.entry.typed.now n result machine.old machine.new
+        (stmt_task_run program.entry.typed.now n (stmt.run_items (items_of items.now))) }
 {
     let function = machine.frame.function;
     let count = machine.frame.slots.len();
@@ -94,7 +93,10 @@ pub(crate) fn select<'a>(machine: &mut Machine<'a>, a: &'a TStmt) -> Result<(), 
     let StmtForm::Switch(_, groups) = &a.form else {
         return Err(Stop::Undefined);
     };
-    let Some(Value::Num(w)) = machine.operands.pop() else {
+    let Some(v) = machine.operands.pop() else {
+        return Err(Stop::Undefined);
+    };
+    let Some(w) = number(v) else {
         return Err(Stop::Undefined);
     };
     let first = chosen(groups, w);

@@ -44,8 +44,8 @@ pub(crate) fn step<'a, I: Source, O: Sink>(
     output: &mut O,
 ) -> Result<(), Stop>
     requires { at_end.old ≡ true → IsAtEnd (I.left input.old) }
-    ensures step { IsStepAt program.typed.now program.bound result machine.old machine.new
-        (task_from program.typed.now program.bound (task_of task.entry) (flow_of machine.old.flow))
+    ensures step { IsStepAt program.entry.typed.now program.entry.bound result machine.old machine.new
+        (task_from program.entry.typed.now program.entry.bound (task_of task.entry) (flow_of machine.old.flow))
         (record { held = O.held output.old; left = I.left input.old; closed = at_end.old })
         (record { held = O.held output.new; left = I.left input.new; closed = at_end.new })
         (Increased (I.faults input.old) (I.faults input.new))
@@ -75,8 +75,8 @@ fn do_expr<'a, I: Source, O: Sink>(
 ) -> Result<(), Stop>
     requires normal { machine.old.flow ≡ Normal }
     requires at_end { at_end.old ≡ true → IsAtEnd (I.left input.old) }
-    ensures step { IsStepAt program.typed.now program.bound result machine.old machine.new
-        (expr_task_run program.typed.now program.bound (expr_task_of task.entry))
+    ensures step { IsStepAt program.entry.typed.now program.entry.bound result machine.old machine.new
+        (expr_task_run program.entry.typed.now program.entry.bound (expr_task_of task.entry))
         (record { held = O.held output.old; left = I.left input.old; closed = at_end.old })
         (record { held = O.held output.new; left = I.left input.new; closed = at_end.new })
         (Increased (I.faults input.old) (I.faults input.new))
@@ -127,8 +127,8 @@ fn do_quiet<'a>(
 ) -> Result<(), Stop>
     requires normal { machine.old.flow ≡ Normal }
     requires quiet { IsQuiet task.entry }
-    ensures { (n : ℕ) → IsStep program.typed.now n result machine.old machine.new
-        (expr_task_run program.typed.now n (expr_task_of task.entry)) }
+    ensures { (n : ℕ) → IsStep program.entry.typed.now n result machine.old machine.new
+        (expr_task_run program.entry.typed.now n (expr_task_of task.entry)) }
 {
     match task {
         ExprTask::Evaluate(e) => evaluate(machine, e),
@@ -167,8 +167,8 @@ fn stmt_unless_jump<'a>(
     program: Program<'a>,
     task: StmtTask<'a>,
 ) -> Result<(), Stop>
-    ensures { IsStep program.typed.now program.bound result machine.old machine.new
-        (task_from program.typed.now program.bound (of_stmt (stmt_task_of task.entry))
+    ensures { IsStep program.entry.typed.now program.entry.bound result machine.old machine.new
+        (task_from program.entry.typed.now program.entry.bound (of_stmt (stmt_task_of task.entry))
         (flow_of machine.old.flow)) }
 {
     match machine.flow {
@@ -183,8 +183,8 @@ fn do_stmt<'a>(
     task: StmtTask<'a>,
 ) -> Result<(), Stop>
     requires { machine.old.flow ≡ Normal }
-    ensures { IsStep program.typed.now program.bound result machine.old machine.new
-        (stmt_task_run program.typed.now program.bound (stmt_task_of task.entry)) }
+    ensures { IsStep program.entry.typed.now program.entry.bound result machine.old machine.new
+        (stmt_task_run program.entry.typed.now program.entry.bound (stmt_task_of task.entry)) }
 {
     match task {
         StmtTask::OnStmt(stage, a) => do_stage(machine, program, stage, a),
@@ -213,8 +213,8 @@ fn do_stage<'a>(
     a: &'a TStmt,
 ) -> Result<(), Stop>
     requires { machine.old.flow ≡ Normal }
-    ensures { IsStep program.typed.now program.bound result machine.old machine.new
-        (stmt_task_run program.typed.now program.bound (on_stmt stage a.now)) }
+    ensures { IsStep program.entry.typed.now program.entry.bound result machine.old machine.new
+        (stmt_task_run program.entry.typed.now program.entry.bound (on_stmt stage a.now)) }
 {
     match stage {
         Stage::Run => run_stmt(machine, program.bound, a),
@@ -231,8 +231,8 @@ fn handle<'a>(
     program: Program<'a>,
     handler: Handler<'a>,
 ) -> Result<(), Stop>
-    ensures { IsStep program.typed.now program.bound result machine.old machine.new
-        (handler_run program.typed.now program.bound (handler_of handler.entry)
+    ensures { IsStep program.entry.typed.now program.entry.bound result machine.old machine.new
+        (handler_run program.entry.typed.now program.entry.bound (handler_of handler.entry)
         (flow_of machine.old.flow)) }
 {
     match handler {

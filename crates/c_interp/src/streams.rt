@@ -12,6 +12,7 @@ ghost use Rattle.c_interp.specs.Steps.{IsStep};
 ghost use Rattle.c_interp.specs.Ports.{IsReceived, IsByte, IsStepAt};
 
 use crate::machine::Machine;
+use crate::operands::number;
 use crate::stop::Stop;
 use c_interp_def::Flow;
 use cc_io::{Failed, Sink, Source};
@@ -94,7 +95,10 @@ pub(crate) fn read_byte<I: Source, O: Sink>(
 fn byte_of(operands: &mut Vec<Value>) -> Result<u8, Stop>
     ensures { IsByte result operands.old.items operands.new.items }
 {
-    let Some(Value::Num(w)) = operands.pop() else {
+    let Some(v) = operands.pop() else {
+        return Err(Stop::Undefined);
+    };
+    let Some(w) = number(v) else {
         return Err(Stop::Undefined);
     };
     let byte = (w % 256) as u8;
@@ -127,7 +131,10 @@ pub(crate) fn end_program(machine: &mut Machine) -> Result<(), Stop>
     ensures { (p : ProgramTree) (n : ℕ)
         → IsStep p n result machine.old machine.new (expr_task_run p n task.end_program) }
 {
-    let Some(Value::Num(w)) = machine.operands.pop() else {
+    let Some(v) = machine.operands.pop() else {
+        return Err(Stop::Undefined);
+    };
+    let Some(w) = number(v) else {
         return Err(Stop::Undefined);
     };
     Err(Stop::Exit((w % 256) as u8))

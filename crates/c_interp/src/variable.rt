@@ -1,6 +1,6 @@
 //! Tasks of variables that hold a value, and addresses of objects.
 
-ghost use Rattle.std.specs.Prelude.{◌≡◌, ℕ, slice_get, slice_set};
+ghost use Rattle.std.specs.Prelude.{◌≡◌, ◌<◌, ◌^◌, ℕ, slice_get, slice_set};
 ghost use Rattle.val_core.specs.Objects.{address_in};
 ghost use Rattle.c_type.specs.Trees.{TypeTree};
 ghost use Rattle.c_typed.specs.Typed.{ProgramTree};
@@ -22,14 +22,31 @@ use c_type::CType;
 use c_typed::{CompoundOp, IncDec};
 use val_core::Value;
 
+/// The address of an object of a call of this function, whose first block has this number; `Bad`
+/// where there is no such object.
+pub(crate) fn address_of<'a>(program: Program<'a>, function: u32, first: u64, number: u32) -> Value
+    requires { first < 2 ^ 63 }
+    ensures { result
+        ≡ address_in first
+        (object_sizes program.entry.typed.now (variables_of program.entry.typed.now function))
+        number }
+{
+    program.layouts.object(function, first, number)
+}
+
 /// The address of an object of the newest call; `Bad` where there is none of this number.
 pub(crate) fn object_at<'a>(machine: &Machine<'a>, program: Program<'a>, number: u32) -> Value
     ensures { result
         ≡ address_in machine.now.frame.objects.first
-        (object_sizes program.typed.now
-        (variables_of program.typed.now machine.now.frame.function)) number }
+        (object_sizes program.entry.typed.now
+        (variables_of program.entry.typed.now machine.now.frame.function)) number }
 {
-    program.layouts.object(machine.frame.function, machine.frame.objects.first, number)
+    address_of(
+        program,
+        machine.frame.function,
+        machine.frame.objects.first,
+        number,
+    )
 }
 
 /// The address of a global becomes an operand.
@@ -39,8 +56,8 @@ pub(crate) fn global_at<'a>(
     number: u32,
 ) -> Result<(), Stop>
     requires { machine.old.flow ≡ Normal }
-    ensures { (n : ℕ) → IsStep program.typed.now n result machine.old machine.new
-        (expr_task_run program.typed.now n (task.global_at number)) }
+    ensures { (n : ℕ) → IsStep program.entry.typed.now n result machine.old machine.new
+        (expr_task_run program.entry.typed.now n (task.global_at number)) }
 {
     give(machine, Some(program.layouts.global(number)))
 }
@@ -52,8 +69,8 @@ pub(crate) fn local_at<'a>(
     slot: u32,
 ) -> Result<(), Stop>
     requires { machine.old.flow ≡ Normal }
-    ensures { (n : ℕ) → IsStep program.typed.now n result machine.old machine.new
-        (expr_task_run program.typed.now n (task.local_at slot)) }
+    ensures { (n : ℕ) → IsStep program.entry.typed.now n result machine.old machine.new
+        (expr_task_run program.entry.typed.now n (task.local_at slot)) }
 {
     let address = slot_address(machine, program, slot);
     give(machine, address)
@@ -62,8 +79,8 @@ pub(crate) fn local_at<'a>(
 fn slot_address<'a>(machine: &Machine<'a>, program: Program<'a>, slot: u32) -> Option<Value>
     ensures { result
         ≡ slot_address (address_in machine.now.frame.objects.first
-        (object_sizes program.typed.now
-        (variables_of program.typed.now machine.now.frame.function)))
+        (object_sizes program.entry.typed.now
+        (variables_of program.entry.typed.now machine.now.frame.function)))
         (slice_get (slots_of machine.now.frame.slots.items) slot) }
 {
     match machine.frame.slots.get(slot as usize) {
