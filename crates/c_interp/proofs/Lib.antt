@@ -4,9 +4,11 @@ mod Reached
 mod Operators
 mod ExprSteps
 mod StmtSteps
+mod BaseSteps
 mod Statements
 mod CallSteps
 mod Layouts
 mod Groups
 mod Arguments
+mod Frames
 mod Streams

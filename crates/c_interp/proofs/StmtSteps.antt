@@ -2,6 +2,7 @@
 use Rattle.std.proofs.Common.{Vec, Global, ◌≡◌, ℕ, ◌-◌, ◌%◌, Bool, true, false, List, [], ◌∷◌, ◌++◌, length, take, map, reverse, refl, sym, ap, ◌∙◌, subst, absurd}
 use Rattle.std.specs.Prelude.{Option, None, Some, option_map, slice_get, slice_set, vec_len, if◌then◌else◌, Result, Ok, Err}
 use Rattle.std.proofs.lemmas.Bool.{false≢true}
+use Rattle.std.proofs.lemmas.List.{map-append, take-map, length-map}
 use Rattle.val_core.specs.declared.values.Value.{Value}
 use Rattle.val_core.specs.declared.values.Value.TheVariants.{Num, At, Bad}
 use Rattle.val_core.specs.Memory.{Memory, store, cleared_at}
@@ -13,7 +14,7 @@ use Rattle.c_typed.specs.Typed.{ExprTree, StmtTree, GroupTrees, VariableTree, Pr
 use Rattle.c_typed.specs.WellTyped.{type_of}
 use Rattle.c_typed.specs.Objects.{access_width}
 use Rattle.c_mean.specs.State as state
-use Rattle.c_mean.specs.State.{used, truth, bytes_into}
+use Rattle.c_mean.specs.State.{used, holds, truth, bytes_into}
 use Rattle.c_mean.specs.Expressions.{branched}
 use Rattle.c_mean.specs.Statements.{normal, broke, returned, chosen_groups, zeros, characters_stored, in_scope, newest_written, past_flow}
 use Rattle.c_mean.specs.Run.{global_sizes}
@@ -26,6 +27,7 @@ use Rattle.c_interp_def.specs.ExprTasks.{context, expr_task_run}
 use Rattle.c_interp_def.specs.StmtTasks as stmt
 use Rattle.c_interp_def.specs.StmtTasks.{of_stmt, entered, groups_run, body_of, stmt_task_run, handler_run}
 use Rattle.c_interp_def.specs.declared.task.Slot.{Slot}
+use Rattle.c_interp_def.specs.declared.task.Slot.TheVariants.{Holds as HeldSlot}
 use Rattle.c_interp_def.specs.declared.task.Flow.{Flow}
 use Rattle.c_interp_def.specs.declared.task.Flow.TheVariants.{Normal, Broke, Continued, Returned as JumpedBack}
 use Rattle.c_interp_expand.specs.TaskViews.{slot_of, slots_of, flow_of}
@@ -34,7 +36,7 @@ use Rattle.c_interp.specs.declared.stop.Stop.{Stop}
 use Rattle.c_interp.specs.declared.stop.Stop.TheVariants as stop
 use Rattle.c_interp.specs.declared.machine.Machine.{Machine}
 use Rattle.c_interp.specs.Machines.{config_of, reached_of, opened_in, IsHeld}
-use Rattle.c_interp.specs.Steps.{IsStep, undefined_run, nothing_run, tasks_do, give_run, choose_run, store_run, with_memory, number, slot_read, slot_address, slot_begun, turns_do, asked_do, IsStored}
+use Rattle.c_interp.specs.Steps.{IsStep, undefined_run, nothing_run, tasks_do, give_run, choose_run, store_run, with_frame_slots, number, slot_read, slot_address, slot_begun, turns_do, asked_do, IsSomeHeld, IsStored}
 use Rattle.c_interp.proofs.Steps.{with_ops, with_store, calls_in, newest-one, done_at_once, undefined_step, nothing_step, same_step, changed_step, end-exit}
 use Rattle.c_interp.proofs.ExprSteps.{one, here, decided}
 use Rattle.c_interp.proofs.Operators.{slot-gives, address-gives}
@@ -231,3 +233,77 @@ not_cleared_step p n old new s k at is clears =
     by m i None e h =
         ap (λ o. on_defined o (λ q. goes_on_at (config_of old m i) (state.with_memory (state_of (config_of old m i)) q))) (zeros-are object m ∙ ap (λ a. cleared_at a m) (sym is) ∙ e)
     by m i (Some j) e h = absurd (false≢true h.0)
+
+-- a variable comes into scope
+pub enter_step : (p : ProgramTree) (n : ℕ) (u : Unit) (old : Machine) (s : Vec Slot Global) (k : ℕ) (slot : Slot) → old.flow ≡ Normal → s.items ≡ old.frame.slots.items ++ slot ∷ [] →
+    Some (slot_of slot) ≡ slot_begun (variables_of p old.frame.function) k (slice_get (variables_of p old.frame.function) k) → IsStep p n (Ok u) old (with_slots old s) (stmt_task_run p n (stmt.enter k))
+enter_step p n u old s k slot flow pushed is =
+    slots_step p n u old s (stmt_task_run p n (stmt.enter k))
+    (λ m i.
+    let x : Configuration = config_of old m i in
+    let vs : List VariableTree = variables_of p old.frame.function in
+    ap (λ o. on_defined o (goes_on_at x)) (entered-is vs k (slice_get vs k) (state_of x) ∙ ap (option_map (in_scope (state_of x))) (sym is))
+    ∙ ap (λ q. reaches normal (with_frame_slots x q)) (sym (ap slots_of pushed ∙ map-append slot_of old.frame.slots.items (slot ∷ [])))
+    ∙ ap (λ f. reaches (flow_of f) (config_of (with_slots old s) m i)) (sym flow))
+
+pub not_entered_step : (p : ProgramTree) (n : ℕ) (old new : Machine) (k : ℕ) → None ≡ slot_begun (variables_of p old.frame.function) k (slice_get (variables_of p old.frame.function) k) →
+    IsStep p n (Err stop.Undefined) old new (stmt_task_run p n (stmt.enter k))
+not_entered_step p n old new k is =
+    undefined_step p n old new (stmt_task_run p n (stmt.enter k))
+    (λ m i held.
+    let x : Configuration = config_of old m i in
+    let vs : List VariableTree = variables_of p old.frame.function in
+    ap (λ o. on_defined o (goes_on_at x)) (entered-is vs k (slice_get vs k) (state_of x) ∙ ap (option_map (in_scope (state_of x))) (sym is)))
+
+-- the newest variable takes a value
+pub slot_begun_step : (p : ProgramTree) (n : ℕ) (u : Unit) (old : Machine) (few : Vec Value Global) (s : Vec Slot Global) (v w : Value) → old.flow ≡ Normal → old.operands.items ≡ few.items ++ v ∷ [] →
+    used_value v ≡ Some w → s.items ≡ take (length old.frame.slots.items - 1) old.frame.slots.items ++ HeldSlot w ∷ [] → IsStep p n (Ok u) old (with_slots (with_ops old few) s) (stmt_task_run p n stmt.begin_slot)
+slot_begun_step p n u old few s v w flow popped is pushed =
+    let last : Machine = with_slots (with_ops old few) s in
+    let written : Value → Configuration → Answer Reached = λ z y. goes_on_at y (newest_written (state_of y) z) in
+    one p n (Ok u) old last few v (stmt_task_run p n stmt.begin_slot) (written w) popped
+    (λ m i held. let y : Configuration = here p n (Ok u) old last few m i in used-is v (λ z. written z y) ∙ ap (λ o. on_defined o (λ z. written z y)) is)
+    (slots_step p n u (with_ops old few) s (written w)
+    (λ m i.
+    let x : Configuration = config_of (with_ops old few) m i in
+    let slots : List Slot = old.frame.slots.items in
+    let same : slots_of s.items ≡ take (length (slots_of slots) - 1) (slots_of slots) ++ holds w ∷ [] =
+    ap slots_of pushed ∙ map-append slot_of (take (length slots - 1) slots) (HeldSlot w ∷ [])
+    ∙ ap (λ l. l ++ holds w ∷ []) (sym (take-map slot_of (length slots - 1) slots) ∙ ap (λ c. take (c - 1) (slots_of slots)) (sym (length-map slots slot_of))) in
+    ap (λ q. reaches normal (with_frame_slots x q)) (sym same) ∙ ap (λ f. reaches (flow_of f) (config_of last m i)) (sym flow)))
+
+pub scope_step : (p : ProgramTree) (n : ℕ) (u : Unit) (old : Machine) (s : Vec Slot Global) (count : ℕ) → s.items ≡ take count old.frame.slots.items →
+    IsStep p n (Ok u) old (with_slots old s) (handler_run p n (stmt.end_scope count) (flow_of old.flow))
+scope_step p n u old s count is =
+    slots_step p n u old s (handler_run p n (stmt.end_scope count) (flow_of old.flow))
+    (λ m i. ap (λ q. reaches (flow_of old.flow) (with_frame_slots (config_of old m i) q)) (take-map slot_of count old.frame.slots.items ∙ ap slots_of (sym is)))
+
+-- characters are stored
+pub characters_step : (p : ProgramTree) (n : ℕ) (r : Result Unit Stop) (old : Machine) (s : Store) (k o : ℕ) (cs : List ℕ) (object : Value) → old.flow ≡ Normal →
+    object ≡ address_in old.frame.objects.first (object_sizes p (variables_of p old.frame.function)) k →
+    ((calls : List Opened) (m : Memory) → Holds old.store calls m → IsStored calls (characters_stored object o cs m) s r) → IsStep p n r old (with_store old s) (stmt_task_run p n (stmt.begin_characters k o cs))
+characters_step p n (Ok u) old s k o cs object flow is stores =
+    changed_step p n u old s (stmt_task_run p n (stmt.begin_characters k o cs)) flow
+    (λ m held. by m (characters_stored object o cs m) refl (stores (calls_in old) m held.store))
+  where
+    by : (m : Memory) (q : Option Memory) → characters_stored object o cs m ≡ q → IsSomeHeld (calls_in old) q s →
+        (j : Memory) × Holds s (calls_in old) j × ((i : List ℕ) → stmt_task_run p n (stmt.begin_characters k o cs) (config_of old m i) ≡ reaches normal (config_of old j i))
+    by m None e h = absurd h
+    by m (Some j) e h = (
+      j,
+      (
+        h,
+        λ i.
+            ap (λ q. on_defined q (λ z. goes_on_at (config_of old m i) (state.with_memory (state_of (config_of old m i)) z))) (ap (λ a. characters_stored a o cs m) (sym is) ∙ e),
+      ),
+    )
+characters_step p n (Err stop.Undefined) old s k o cs object flow is stores =
+    undefined_step p n old (with_store old s) (stmt_task_run p n (stmt.begin_characters k o cs))
+    (λ m i held.
+    ap (λ q. on_defined q (λ z. goes_on_at (config_of old m i) (state.with_memory (state_of (config_of old m i)) z)))
+    (ap (λ a. characters_stored a o cs m) (sym is) ∙ stores (calls_in old) m held.store))
+characters_step p n (Err stop.NoMemory) old s k o cs object flow is stores = λ m held i. tt
+characters_step p n (Err (stop.Exit status)) old s k o cs object flow is stores = λ m held i. absurd (stores (calls_in old) m held.store)
+characters_step p n (Err stop.Cut) old s k o cs object flow is stores = λ m held i. absurd (stores (calls_in old) m held.store)
+characters_step p n (Err stop.ReadFault) old s k o cs object flow is stores = λ m held i. absurd (stores (calls_in old) m held.store)
+characters_step p n (Err stop.WriteFault) old s k o cs object flow is stores = λ m held i. absurd (stores (calls_in old) m held.store)

@@ -157,10 +157,13 @@ abbrev pub slot_begun : List VariableTree → (variable : ℕ) → Option Variab
 slot_begun vs k None = None
 slot_begun vs k (Some v) = Some (if v.is_object then object (object_number vs k) else holds Bad)
 
+abbrev pub IsSomeHeld : List Opened → Option Memory → Store → Type 0
+IsSomeHeld calls None s = ⊥
+IsSomeHeld calls (Some m) s = Holds s calls m
+
 -- The memory is as told, where that is defined. Nothing is said where memory is out.
 abbrev pub IsStored : {X : Type 0} → List Opened → Option Memory → Store → Result X Stop → Type 0
-IsStored calls None s (Ok x) = ⊥
-IsStored calls (Some m) s (Ok x) = Holds s calls m
+IsStored calls m s (Ok x) = IsSomeHeld calls m s
 IsStored calls m s (Err stop.Undefined) = m ≡ None
 IsStored calls m s (Err stop.NoMemory) = Unit {0}
 IsStored calls m s (Err r) = ⊥

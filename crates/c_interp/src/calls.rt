@@ -52,8 +52,10 @@ pub(crate) fn call<'a>(
     let Some(f) = program.typed.functions.get(function as usize) else {
         return Err(Stop::Undefined);
     };
-    let frame = frame_of(machine, alloc, program, function, f, count)?;
-    enter(machine, frame, f)
+    match frame_of(machine, alloc, program, function, f, count) {
+        Ok(frame) => enter(machine, frame, f),
+        Err(stop) => Err(stop),
+    }
 }
 
 // The frame of a call of this function. Its blocks are opened, and its arguments taken.
@@ -78,7 +80,7 @@ fn frame_of<'a>(
     }
     let first = machine.operands.len().saturating_sub(count);
     let params = (f.params as usize).min(f.variables.len());
-    let slots = take_arguments(
+    let taken = take_arguments(
         alloc,
         program,
         function,
@@ -86,14 +88,19 @@ fn frame_of<'a>(
         &f.variables[..params],
         &machine.operands[first..],
         &mut machine.store,
-    )?;
-    machine.operands.truncate(first);
-    Ok(Frame {
-        function,
-        objects,
-        depth: machine.frame.depth - 1,
-        slots,
-    })
+    );
+    match taken {
+        Ok(slots) => {
+            machine.operands.truncate(first);
+            Ok(Frame {
+                function,
+                objects,
+                depth: machine.frame.depth - 1,
+                slots,
+            })
+        }
+        Err(stop) => Err(stop),
+    }
 }
 
 // The parameters in scope as a call begins, whose blocks are numbered from `first` on. Those that

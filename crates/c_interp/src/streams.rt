@@ -118,10 +118,12 @@ pub(crate) fn write_byte<O: Sink>(machine: &mut Machine, output: &mut O) -> Resu
     ensures write_faults { O.faults output.old ≤ O.faults output.new }
     ensures rest { O.rest output.new ≡ O.rest output.old }
 {
-    let byte = byte_of(&mut machine.operands)?;
-    match output.write(&[byte]) {
-        Ok(_) => Ok(()),
-        Err(_) => Err(Stop::WriteFault),
+    match byte_of(&mut machine.operands) {
+        Ok(byte) => match output.write(&[byte]) {
+            Ok(_) => Ok(()),
+            Err(_) => Err(Stop::WriteFault),
+        },
+        Err(stop) => Err(stop),
     }
 }
 
