@@ -66,7 +66,7 @@ reached_first p n m now open_ b = record {
 
 -- ---- one task more
 
-tasks-last : (few : List Task) (t : Task) → tasks_of (few ++ t ∷ []) ≡ tasks_of few ++ task_of t ∷ []
+pub tasks-last : (few : List Task) (t : Task) → tasks_of (few ++ t ∷ []) ≡ tasks_of few ++ task_of t ∷ []
 tasks-last [] t = refl
 tasks-last (x ∷ few) t = ap (λ ts. task_of x ∷ ts) (tasks-last few t)
 
