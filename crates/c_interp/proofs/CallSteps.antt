@@ -34,6 +34,9 @@ use Rattle.c_interp.proofs.Steps.{end-cut, undefined_step, moved}
 pub newest_mapped : {X : Type 0} (g : Frame → X) (fs : List Frame) (f : Frame) → reverse (map g (fs ++ f ∷ [])) ≡ g f ∷ reverse (map g fs)
 newest_mapped g fs f = ap reverse (map-append g fs (f ∷ [])) ∙ reverse-append (map g fs) (g f ∷ [])
 
+waits : {X : Type 0} (g : Frame → X) (many few : List Frame) (f : Frame) → many ≡ few ++ f ∷ [] → reverse (map g many) ≡ g f ∷ reverse (map g few)
+waits g many few f e = ap (λ fs. reverse (map g fs)) e ∙ newest_mapped g few f
+
 -- ---- a call that begins
 
 -- what is heard of it is what is heard of this
@@ -120,19 +123,18 @@ end_call_done p n r old new caller few s value popped is closes step =
     moved p n r old (back_in old caller few s) new (handler_run p n end_call (flow_of old.flow)) (give_run (Some value)) refl
     (λ m held.
     let first : ℕ = old.frame.objects.first in
-    let waits : {X : Type 0} (g : Frame → X) → reverse (map g old.callers.items) ≡ g caller ∷ reverse (map g few.items) = λ g. ap (λ fs. reverse (map g fs)) popped ∙ newest_mapped g few.items caller in
     let counts : (old.frame.objects.count ≡ length (objects_of p.structs (variables_of p old.frame.function))) × AreCounted p (counted_in caller ∷ reverse (map counted_in few.items)) =
-    let P : List Counted → Type 0 = λ cs. AreCounted p (counted_in old.frame ∷ cs) in subst P (waits counted_in) held.counts in
+    let P : List Counted → Type 0 = λ cs. AreCounted p (counted_in old.frame ∷ cs) in subst P (waits counted_in old.callers.items few.items caller popped) held.counts in
     let k : Memory = closed first (length (objects_of p.structs (variables_of p old.frame.function))) m in
     let holds : Holds s (opened_in caller ∷ reverse (map opened_in few.items)) k =
     let P : ℕ → Type 0 = λ c. Holds s (opened_in caller ∷ reverse (map opened_in few.items)) (closed first c m) in
     subst P counts.0 (closes (opened_in caller ∷ reverse (map opened_in few.items)) m
-    (let Q : List Opened → Type 0 = λ os. Holds old.store (opened_in old.frame ∷ os) m in subst Q (waits opened_in) held.store)) in (
+    (let Q : List Opened → Type 0 = λ os. Holds old.store (opened_in old.frame ∷ os) m in subst Q (waits opened_in old.callers.items few.items caller popped) held.store)) in (
       k,
       (
         record { store = holds; counts = counts.1 },
         λ i.
-            ap (λ fs. returned_to fs (reverse old.operands.items) (record { value = value_at_end (old.frame.function == p.main) (flow_of old.flow); memory = k; input = i })) (waits frame_of)
+            ap (λ fs. returned_to fs (reverse old.operands.items) (record { value = value_at_end (old.frame.function == p.main) (flow_of old.flow); memory = k; input = i })) (waits frame_of old.callers.items few.items caller popped)
             ∙ ap (λ v. give_run (Some v) (config_of (back_in old caller few s) k i)) (sym is),
       ),
     ))

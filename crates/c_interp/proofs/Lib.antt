@@ -11,4 +11,5 @@ mod Layouts
 mod Groups
 mod Arguments
 mod Frames
+mod Newest
 mod Streams

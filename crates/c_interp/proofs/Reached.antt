@@ -1,6 +1,6 @@
 -- Where a run of the code has come to after some tasks, and how it ends there.
 use Rattle.std.proofs.Common.{Vec, Global, ◌≡◌, ℕ, ◌+◌, Bool, true, false, List, [], ◌∷◌, ◌++◌, length, map, take, refl, sym, ap, ap₂, ◌∙◌, subst, append_assoc, arith}
-use Rattle.std.specs.Prelude.{Option, None, Some, Result, Ok, Err}
+use Rattle.std.specs.Prelude.{Option, None, Some, Result, Ok, Err, MatchResult}
 use Rattle.std.proofs.lemmas.Bool.{false≢true}
 use Rattle.std.proofs.lemmas.List.{length-append}
 use Rattle.val_core.specs.Memory.{Memory}
@@ -33,7 +33,7 @@ use Rattle.c_interp.specs.Machines.{config_of, reached_of, IsHeld}
 use Rattle.c_interp.specs.Steps.{IsStopped, task_from}
 use Rattle.c_interp.specs.Ports.{Port, IsDoneAt, IsStoppedAt, AreLeft, IsStepAt}
 use Rattle.c_interp.specs.Begun.{HasBegun, stop_of}
-use Rattle.c_interp.proofs.Steps.{with_tasks}
+use Rattle.c_interp.proofs.Steps.{with_tasks, tasks-last}
 use Rattle.c_interp.proofs.Heard.{heard-equal, heard-twice, heard-after, heard-once, taken-append, heard_with, heard-exit, heard-cut, heard-undefined, heard-returned, written-first}
 
 pub record IsReached (p : ProgramTree) (n : ℕ) (first : Port) (m : Machine) (now : Port) : Type 0 where
@@ -65,10 +65,6 @@ reached_first p n m now open_ b = record {
 }
 
 -- ---- one task more
-
-pub tasks-last : (few : List Task) (t : Task) → tasks_of (few ++ t ∷ []) ≡ tasks_of few ++ task_of t ∷ []
-tasks-last [] t = refl
-tasks-last (x ∷ few) t = ap (λ ts. task_of x ∷ ts) (tasks-last few t)
 
 -- the last task is done first
 last-first : (p : ProgramTree) (n : ℕ) (many few : List Task) (t : Task) (r : Reached) → many ≡ few ++ t ∷ [] →
@@ -210,3 +206,14 @@ module _ (p : ProgramTree) (n : ℕ) (first : Port) (m : Machine) (few : Vec Tas
       some-run p n first m now last r run.undefined same (heard-then (Undefined []) is ∙ heard-undefined {A = Reached} r.did r.bytes here r.count)
   stopped-run reads writes ending.ReadFault is = (is, part p n first m now last r same)
   stopped-run reads writes ending.WriteFault is = (is, part p n first m now last r same)
+
+-- how a run ends where a step did not go on
+pub ended_by : {X : Type 0} (p : ProgramTree) (n : ℕ) (first : Port) (m : Machine) (few : Vec Task Global) (t : Task) (now last : Port) (reads writes : Type 0) (s : Stop) (q : Result Ending X) →
+    IsReached p n first m now → m.tasks.items ≡ few.items ++ t ∷ [] →
+    AreLeft now last × ((k : Memory) → IsHeld p (with_tasks m few) k → (i : List ℕ) → IsStoppedAt reads writes s (task_from p n (task_of t) (flow_of m.flow) (config_of (with_tasks m few) k i))) →
+    MatchResult q (λ e. s ≡ stop_of e) (λ x. s ≡ stop.NoMemory) → MatchResult q (HasEnded n p (streams first) (streams last) reads writes) (λ x. IsPart n p (streams first) (streams last))
+ended_by p n first m few t now last reads writes s (Ok e) r popped step is =
+    let held' : IsHeld p (with_tasks m few) r.memory = record { store = r.is_held.store; counts = r.is_held.counts } in
+    let P : Stop → Type 0 = λ z. IsStoppedAt reads writes z (task_from p n (task_of t) (flow_of m.flow) (config_of (with_tasks m few) r.memory (known now.left))) in
+    stopped-run p n first m few t now last r popped step.0 reads writes e (subst P is (step.1 r.memory held' (known now.left)))
+ended_by p n first m few t now last reads writes s (Err x) r popped step is = part p n first m now last r step.0

@@ -16,7 +16,7 @@ use Rattle.c_interp_def.specs.Laws.{normally}
 use Rattle.c_interp_def.specs.declared.task.Task.{Task as Left}
 use Rattle.c_interp_def.specs.StmtTasks.{Task, tasks_run}
 use Rattle.c_interp_def.specs.CallLaws.{IsHeardAs}
-use Rattle.c_interp_expand.specs.TaskViews.{tasks_of, flow_of}
+use Rattle.c_interp_expand.specs.TaskViews.{task_of, tasks_of, flow_of}
 use Rattle.c_interp.specs.declared.stop.Stop.{Stop}
 use Rattle.c_interp.specs.declared.stop.Stop.TheVariants as stop
 use Rattle.c_interp.specs.declared.machine.Machine.{Machine}
@@ -173,6 +173,10 @@ moved p n (Err s) old mid new run run' tasks at step m held i =
 
 pub nothing_step : (p : ProgramTree) (n : ℕ) (u : Unit) (m : Machine) → m.flow ≡ Normal → IsStep p n (Ok u) m m nothing_run
 nothing_step p n u m e k held = done_at_once p n m m (λ i. nothing_run (config_of m k i)) k refl held (λ i. ap (λ f. reaches (flow_of f) (config_of m k i)) (sym e))
+
+pub tasks-last : (few : List Left) (t : Left) → tasks_of (few ++ t ∷ []) ≡ tasks_of few ++ task_of t ∷ []
+tasks-last [] t = refl
+tasks-last (x ∷ few) t = ap (λ ts. task_of x ∷ ts) (tasks-last few t)
 
 -- tasks that were put
 pub put_step : (p : ProgramTree) (n : ℕ) (u : Unit) (old : Machine) (many : Vec Left Global) (ts : List Task) (run : Configuration → Answer Reached) → old.flow ≡ Normal →

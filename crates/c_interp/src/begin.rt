@@ -18,7 +18,7 @@ use crate::operands::store;
 use crate::statement::{numbers, variables};
 use crate::stop::Stop;
 use crate::variable::object_at;
-use c_interp_def::{Flow, Slot};
+use c_interp_def::Slot;
 use c_interp_store::Store;
 use c_interp_value::used;
 use c_lex::Bytes;

@@ -4,7 +4,6 @@ ghost use Rattle.std.specs.Prelude.{◌≡◌, ℕ, ◌<◌, ◌^◌, Some, List
 ghost use Rattle.val_core.specs.declared.values.Value.TheVariants.{Bad};
 ghost use Rattle.val_core.specs.Memory.{Memory};
 ghost use Rattle.val_core.specs.Objects.{address_in};
-ghost use Rattle.c_typed.specs.WellTyped.{params_of};
 ghost use Rattle.c_mean.specs.Expressions.{value_or_none};
 ghost use Rattle.c_mean.specs.Run.{params_stored, params_in_scope, value_at_end};
 ghost use Rattle.c_interp_store.specs.Holding.{Opened, Holds};

@@ -16,7 +16,7 @@ use crate::machine::Machine;
 use crate::operands::{give, three, two, write};
 use crate::push::{choose, put2};
 use crate::stop::Stop;
-use c_interp_def::{ExprTask, Flow, Task};
+use c_interp_def::{ExprTask, Task};
 use c_interp_store::Store;
 use c_interp_value::{
     access_width, binary, compound, converted, extended, member_address, stepped, truth, unary,

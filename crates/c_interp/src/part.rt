@@ -12,7 +12,6 @@ ghost use Rattle.c_interp.specs.Steps.{IsStep};
 
 use crate::machine::Machine;
 use crate::stop::Stop;
-use c_interp_def::Flow;
 use c_typed::{Element, Group, TExpr, TPlace, TStmt};
 
 /// An expression.

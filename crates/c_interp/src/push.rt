@@ -8,7 +8,7 @@ ghost use Rattle.c_interp.specs.Steps.{IsStep, choose_run, tasks_do};
 
 use crate::machine::Machine;
 use crate::stop::Stop;
-use c_interp_def::{Flow, Task};
+use c_interp_def::Task;
 
 /// One more task.
 pub(crate) fn put<'a>(machine: &mut Machine<'a>, task: Task<'a>) -> Result<(), Stop>

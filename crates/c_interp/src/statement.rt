@@ -1,8 +1,7 @@
 //! Tasks of statements (ISO/IEC 9899:2011, 6.8).
 
-ghost use Rattle.std.specs.Prelude.{◌≡◌, ◌<◌, ◌≤◌, ℕ, Some, IfSome, length, drop, slice_get};
-ghost use Rattle.c_typed.specs.Typed.{ProgramTree, GroupTree};
-ghost use Rattle.c_typed.specs.Objects.{object_number};
+ghost use Rattle.std.specs.Prelude.{◌≡◌, ◌≤◌, ℕ, length, drop};
+ghost use Rattle.c_typed.specs.Typed.{ProgramTree};
 ghost use Rattle.c_typed.specs.StmtViews.{groups_of, items_of};
 ghost use Rattle.c_mean.specs.Statements.{chosen_groups, from_default};
 ghost use Rattle.c_interp_expand.specs.TaskViews.{flow_of};
@@ -17,7 +16,7 @@ use crate::machine::{Machine, Program};
 use crate::operands::number;
 use crate::push::{choose, put};
 use crate::stop::Stop;
-use c_interp_def::{Flow, Slot, Stage, StmtTask, Task};
+use c_interp_def::{Flow, Stage, StmtTask, Task};
 use c_interp_value::{truth, used};
 use c_typed::{Group, Item, StmtForm, TStmt, Variable};
 

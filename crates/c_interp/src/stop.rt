@@ -1,11 +1,10 @@
 //! How a run ends.
 
 ghost use Rattle.std.specs.Prelude.{◌≡◌};
-ghost use Rattle.c_interp.specs.declared.stop.Stop.{Stop as AnyStop};
 ghost use Rattle.c_interp.specs.declared.stop.Stop.TheVariants as stop;
 
 use no_memory::NoMemory;
-use std::alloc::{AllocError, AllocFailed};
+use std::alloc::AllocFailed;
 
 /// How the run of a program ends within its bound: with a status; cut, since the bound did not
 /// suffice; or undefined. Or a call of the input or of the output failed.

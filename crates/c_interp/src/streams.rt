@@ -14,7 +14,6 @@ ghost use Rattle.c_interp.specs.Ports.{IsReceived, IsByte, IsStepAt};
 use crate::machine::Machine;
 use crate::operands::number;
 use crate::stop::Stop;
-use c_interp_def::Flow;
 use cc_io::{Failed, Sink, Source};
 use val_core::Value;
 
@@ -55,9 +54,10 @@ fn replace_newest(operands: &mut Vec<Value>, v: Value)
         operands.new.items ≡ few ++ v ∷ [] }
 {
     let count = operands.len();
-    if count > 0 {
-        operands[count - 1] = v;
+    if count == 0 {
+        return;
     }
+    operands[count - 1] = v;
 }
 
 /// The next byte of the input becomes an operand, or -1 at its end.

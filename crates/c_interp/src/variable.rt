@@ -16,7 +16,7 @@ use crate::expression::{compounded, incremented, old_of};
 use crate::machine::{Machine, Program};
 use crate::operands::{give, two};
 use crate::stop::Stop;
-use c_interp_def::{Flow, Slot};
+use c_interp_def::Slot;
 use c_interp_value::used;
 use c_type::CType;
 use c_typed::{CompoundOp, IncDec};
