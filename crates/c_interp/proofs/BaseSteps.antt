@@ -1,5 +1,5 @@
 -- The steps that end a task: a value is given, stored, or assigned to a variable.
-use Rattle.std.proofs.Common.{Vec, Global, ◌≡◌, ℕ, Bool, true, false, List, [], ◌∷◌, ◌++◌, map, reverse, refl, sym, ap, ◌∙◌, subst, absurd}
+use Rattle.std.proofs.Common.{Vec, Global, ◌≡◌, ℕ, Bool, true, false, List, [], ◌∷◌, ◌++◌, map, reverse, refl, sym, ap, ◌∙◌, subst}
 use Rattle.std.specs.Prelude.{Option, None, Some, slice_set, unwrap_or, Result, Ok, Err}
 use Rattle.std.proofs.lemmas.Bool.{false≢true}
 use Rattle.val_core.specs.declared.values.Value.{Value}
@@ -89,7 +89,7 @@ module _ (p : ProgramTree) (n : ℕ) (old : Machine) (s : Store) (width : ℕ) (
 
 -- a variable takes a value
 pub assigned_step : (p : ProgramTree) (n : ℕ) (u : Unit) (old : Machine) (slots : Vec Slot Global) (many : Vec Value Global) (k : ℕ) (v : Value) (given : Option Value) → old.flow ≡ Normal →
-    slots_of slots.items ≡ slice_set (slots_of old.frame.slots.items) k (holds v) → many.items ≡ old.operands.items ++ unwrap_or given v ∷ [] →
+    slots_of slots.items ≡ slice_set (slots_of old.slots.items) k (holds v) → many.items ≡ old.operands.items ++ unwrap_or given v ∷ [] →
     IsStep p n (Ok u) old (with_ops (with_slots old slots) many) (set_run k (Some v) given)
 assigned_step p n u old slots many k v given flow assigned pushed m held =
     let new : Machine = with_ops (with_slots old slots) many in

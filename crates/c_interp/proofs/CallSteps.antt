@@ -21,20 +21,20 @@ use Rattle.c_interp_def.specs.CallLaws.{IsHeardAs, call_tasks, in_call, call_mem
 use Rattle.c_interp_def.proofs.CallProofs.{call-is-cut, call-enters}
 use Rattle.c_interp_def.specs.declared.task.Flow.TheVariants.{Normal}
 use Rattle.c_interp_expand.specs.TaskViews.{tasks_of, flow_of}
-use Rattle.c_interp.specs.declared.frame.Frame.{Frame}
+use Rattle.c_interp.specs.declared.frame.Active.{Active}
 use Rattle.c_interp.specs.declared.stop.Stop.{Stop}
 use Rattle.c_interp.specs.declared.stop.Stop.TheVariants as stop
 use Rattle.c_interp.specs.declared.machine.Machine.{Machine}
-use Rattle.c_interp.specs.Machines.{frame_of, opened_in, Counted, counted_in, AreCounted, config_of, reached_of, IsHeld}
+use Rattle.c_interp.specs.Machines.{frame_with, frame_of, opened_in, opened_by, Counted, counted_in, counted_by, AreCounted, config_of, IsHeld}
 use Rattle.c_interp.specs.Steps.{IsStep, give_run}
-use Rattle.c_interp.specs.Calls.{BeginsCall, HasEntered}
+use Rattle.c_interp.specs.Calls.{BeginsCall, waiting, HasEntered}
 use Rattle.c_interp.proofs.Steps.{end-cut, undefined_step, moved}
 
 -- one more at the end is the first of all
-pub newest_mapped : {X : Type 0} (g : Frame → X) (fs : List Frame) (f : Frame) → reverse (map g (fs ++ f ∷ [])) ≡ g f ∷ reverse (map g fs)
+pub newest_mapped : {X : Type 0} (g : Active → X) (fs : List Active) (f : Active) → reverse (map g (fs ++ f ∷ [])) ≡ g f ∷ reverse (map g fs)
 newest_mapped g fs f = ap reverse (map-append g fs (f ∷ [])) ∙ reverse-append (map g fs) (g f ∷ [])
 
-waits : {X : Type 0} (g : Frame → X) (many few : List Frame) (f : Frame) → many ≡ few ++ f ∷ [] → reverse (map g many) ≡ g f ∷ reverse (map g few)
+waits : {X : Type 0} (g : Active → X) (many few : List Active) (f : Active) → many ≡ few ++ f ∷ [] → reverse (map g many) ≡ g f ∷ reverse (map g few)
 waits g many few f e = ap (λ fs. reverse (map g fs)) e ∙ newest_mapped g few f
 
 -- ---- a call that begins
@@ -64,35 +64,39 @@ abbrev reached_at : def.Frame → List def.Frame → List Value → Flow → Mem
 reached_at f fs vs flow m i = record { flow = flow; at = record { frame = f; callers = fs; operands = vs; memory = m; input = i } }
 
 -- the caller waits
-callers-are : {X : Type 0} (g : Frame → X) (p : ProgramTree) (f count : ℕ) (fn : FunctionTree) (frame : Frame) (old mid new : Machine) (m : Memory) →
-    BeginsCall p f count fn old mid frame m → HasEntered frame fn mid new → reverse (map g new.callers.items) ≡ g old.frame ∷ reverse (map g old.callers.items)
-callers-are g p f count fn frame old mid new m b h =
-    ap (λ fs. reverse (map g fs)) h.callers ∙ newest_mapped g mid.callers.items mid.frame ∙ ap (λ c. g c ∷ reverse (map g mid.callers.items)) b.caller
-    ∙ ap (λ cs. g old.frame ∷ reverse (map g cs.items)) b.callers
+callers-are : {X : Type 0} (g : Active → X) (p : ProgramTree) (f count : ℕ) (fn : FunctionTree) (active : Active) (old mid new : Machine) (m : Memory) →
+    BeginsCall p f count fn old mid active m → HasEntered active fn mid new → reverse (map g new.callers.items) ≡ g (waiting old) ∷ reverse (map g old.callers.items)
+callers-are g p f count fn active old mid new m b h =
+    ap (λ fs. reverse (map g fs)) h.callers ∙ newest_mapped g mid.callers.items (waiting mid)
+    ∙ ap (λ c. g (record { frame = c; slots = mid.slots }) ∷ reverse (map g mid.callers.items)) b.caller
+    ∙ ap (λ c. g (record { frame = old.frame; slots = c }) ∷ reverse (map g mid.callers.items)) b.slots
+    ∙ ap (λ cs. g (waiting old) ∷ reverse (map g cs.items)) b.callers
 
-pub call_done : (p : ProgramTree) (n f count : ℕ) (u : Unit) (old mid new : Machine) (fn : FunctionTree) (frame : Frame) → old.flow ≡ Normal → old.frame.depth ≡ suc (old.frame.depth - 1) →
-    slice_get p.functions f ≡ Some fn → ((m : Memory) → IsHeld p old m → BeginsCall p f count fn old mid frame m) → HasEntered frame fn mid new →
+pub call_done : (p : ProgramTree) (n f count : ℕ) (u : Unit) (old mid new : Machine) (fn : FunctionTree) (active : Active) → old.flow ≡ Normal → old.frame.depth ≡ suc (old.frame.depth - 1) →
+    slice_get p.functions f ≡ Some fn → ((m : Memory) → IsHeld p old m → BeginsCall p f count fn old mid active m) → HasEntered active fn mid new →
     IsStep p n (Ok u) old new (expr_task_run p n (call f count))
-call_done p n f count u old mid new fn frame flow depth there begins h m held =
-    let b : BeginsCall p f count fn old mid frame m = begins m held in
+call_done p n f count u old mid new fn active flow depth there begins h m held =
+    let b : BeginsCall p f count fn old mid active m = begins m held in
     let x : List ℕ → Configuration = config_of old m in
-    let is_function : frame.function ≡ f = ap (λ g. g.function) b.frame in
-    let objects : frame.objects.count ≡ length (objects_of p.structs (variables_of p frame.function)) =
+    let is_function : active.frame.function ≡ f = ap (λ g. g.function) b.frame in
+    let objects : active.frame.objects.count ≡ length (objects_of p.structs (variables_of p active.frame.function)) =
     b.counted ∙ ap (λ o. length (objects_of p.structs (variables_in o))) (sym there) ∙ ap (λ g. length (objects_of p.structs (variables_of p g))) (sym is_function) in
-    let opened : opened_in new.frame ∷ reverse (map opened_in new.callers.items) ≡ opened_in frame ∷ opened_in old.frame ∷ reverse (map opened_in old.callers.items) =
-    ap (λ g. opened_in g ∷ reverse (map opened_in new.callers.items)) h.frame_is
-    ∙ ap (λ os. opened_in frame ∷ os) (callers-are opened_in p f count fn frame old mid new m b h) in
-    let counted : counted_in new.frame ∷ reverse (map counted_in new.callers.items) ≡ counted_in frame ∷ counted_in old.frame ∷ reverse (map counted_in old.callers.items) =
-    ap (λ g. counted_in g ∷ reverse (map counted_in new.callers.items)) h.frame_is
-    ∙ ap (λ cs. counted_in frame ∷ cs) (callers-are counted_in p f count fn frame old mid new m b h) in
+    let opened : opened_in new.frame ∷ reverse (map opened_by new.callers.items) ≡ opened_by active ∷ opened_in old.frame ∷ reverse (map opened_by old.callers.items) =
+    ap (λ g. opened_in g ∷ reverse (map opened_by new.callers.items)) h.frame_is
+    ∙ ap (λ os. opened_by active ∷ os) (callers-are opened_by p f count fn active old mid new m b h) in
+    let counted : counted_in new.frame ∷ reverse (map counted_by new.callers.items) ≡ counted_by active ∷ counted_in old.frame ∷ reverse (map counted_by old.callers.items) =
+    ap (λ g. counted_in g ∷ reverse (map counted_by new.callers.items)) h.frame_is
+    ∙ ap (λ cs. counted_by active ∷ cs) (callers-are counted_by p f count fn active old mid new m b h) in
     let holds : Store → List Opened → Type 0 = λ s os. Holds s os b.memory in
+    let callers : List def.Frame = frame_of (waiting old) ∷ reverse (map frame_of old.callers.items) in
+    let now : def.Frame = frame_with new.frame new.slots.items in
     record {
       put = call_tasks fn;
       tasks = h.tasks ∙ ap (λ ts. tasks_of ts.items ++ call_tasks fn) b.tasks;
       memory = b.memory;
       held = record {
         store = let P : List Opened → Type 0 = holds new.store in
-            subst P (sym opened) (let Q : Store → Type 0 = λ s. holds s (opened_in frame ∷ opened_in old.frame ∷ reverse (map opened_in old.callers.items)) in subst Q (sym h.store) b.held);
+            subst P (sym opened) (let Q : Store → Type 0 = λ s. holds s (opened_by active ∷ opened_in old.frame ∷ reverse (map opened_by old.callers.items)) in subst Q (sym h.store) b.held);
         counts = let P : List Counted → Type 0 = AreCounted p in subst P (sym counted) (objects, held.counts);
       };
       same = λ i rest j o.
@@ -100,22 +104,23 @@ call_done p n f count u old mid new fn frame flow depth there begins h m held =
           let heard_at : Reached → Heard = λ r. heard_as j (before o (then_on (to r) rest)) in
           entered-as p n f count old m i (Some fn) rest (old.frame.depth - 1) depth there j o
           ∙ ap (λ g. heard_as j (before o (then_on (on_defined g (λ s. to (normally (in_call (x i) f count (old.frame.depth - 1) fn s)))) rest))) b.stored
-          ∙ ap (λ g. heard_at (reached_at g (frame_of old.frame ∷ reverse (map frame_of old.callers.items)) (drop count (reverse old.operands.items)) normal b.memory i)) (sym b.frame)
-          ∙ ap (λ g. heard_at (reached_at (frame_of g) (frame_of old.frame ∷ reverse (map frame_of old.callers.items)) (drop count (reverse old.operands.items)) normal b.memory i)) (sym h.frame_is)
-          ∙ ap (λ fs. heard_at (reached_at (frame_of new.frame) fs (drop count (reverse old.operands.items)) normal b.memory i)) (sym (callers-are frame_of p f count fn frame old mid new m b h))
-          ∙ ap (λ vs. heard_at (reached_at (frame_of new.frame) (reverse (map frame_of new.callers.items)) vs normal b.memory i))
+          ∙ ap (λ g. heard_at (reached_at g callers (drop count (reverse old.operands.items)) normal b.memory i)) (sym b.frame)
+          ∙ ap (λ g. heard_at (reached_at (frame_with g active.slots.items) callers (drop count (reverse old.operands.items)) normal b.memory i)) (sym h.frame_is)
+          ∙ ap (λ g. heard_at (reached_at (frame_with new.frame g.items) callers (drop count (reverse old.operands.items)) normal b.memory i)) (sym h.slots_are)
+          ∙ ap (λ fs. heard_at (reached_at now fs (drop count (reverse old.operands.items)) normal b.memory i)) (sym (callers-are frame_of p f count fn active old mid new m b h))
+          ∙ ap (λ vs. heard_at (reached_at now (reverse (map frame_of new.callers.items)) vs normal b.memory i))
           (sym b.operands ∙ ap (λ vs. reverse vs.items) (sym h.operands))
-          ∙ ap (λ g. heard_at (reached_at (frame_of new.frame) (reverse (map frame_of new.callers.items)) (reverse new.operands.items) (flow_of g) b.memory i))
+          ∙ ap (λ g. heard_at (reached_at now (reverse (map frame_of new.callers.items)) (reverse new.operands.items) (flow_of g) b.memory i))
           (sym flow ∙ sym b.flow ∙ sym h.flow);
     }
 
 -- ---- a call that ends
 
 -- the machine with the caller of the newest call
-abbrev pub back_in : Machine → Frame → Vec Frame Global → Store → Machine
-back_in m caller few s = record { tasks = m.tasks; operands = m.operands; frame = caller; callers = few; flow = Normal; store = s }
+abbrev pub back_in : Machine → Active → Vec Active Global → Store → Machine
+back_in m caller few s = record { tasks = m.tasks; operands = m.operands; frame = caller.frame; slots = caller.slots; callers = few; flow = Normal; store = s }
 
-pub end_call_done : (p : ProgramTree) (n : ℕ) (r : Result Unit Stop) (old new : Machine) (caller : Frame) (few : Vec Frame Global) (s : Store) (value : Value) →
+pub end_call_done : (p : ProgramTree) (n : ℕ) (r : Result Unit Stop) (old new : Machine) (caller : Active) (few : Vec Active Global) (s : Store) (value : Value) →
     old.callers.items ≡ few.items ++ caller ∷ [] → value ≡ value_or_none (value_at_end (old.frame.function == p.main) (flow_of old.flow)) →
     ((calls : List Opened) (m : Memory) → Holds old.store (opened_in old.frame ∷ calls) m → Holds s calls (closed old.frame.objects.first old.frame.objects.count m)) →
     IsStep p n r (back_in old caller few s) new (give_run (Some value)) → IsStep p n r old new (handler_run p n end_call (flow_of old.flow))
@@ -123,13 +128,13 @@ end_call_done p n r old new caller few s value popped is closes step =
     moved p n r old (back_in old caller few s) new (handler_run p n end_call (flow_of old.flow)) (give_run (Some value)) refl
     (λ m held.
     let first : ℕ = old.frame.objects.first in
-    let counts : (old.frame.objects.count ≡ length (objects_of p.structs (variables_of p old.frame.function))) × AreCounted p (counted_in caller ∷ reverse (map counted_in few.items)) =
-    let P : List Counted → Type 0 = λ cs. AreCounted p (counted_in old.frame ∷ cs) in subst P (waits counted_in old.callers.items few.items caller popped) held.counts in
+    let counts : (old.frame.objects.count ≡ length (objects_of p.structs (variables_of p old.frame.function))) × AreCounted p (counted_by caller ∷ reverse (map counted_by few.items)) =
+    let P : List Counted → Type 0 = λ cs. AreCounted p (counted_in old.frame ∷ cs) in subst P (waits counted_by old.callers.items few.items caller popped) held.counts in
     let k : Memory = closed first (length (objects_of p.structs (variables_of p old.frame.function))) m in
-    let holds : Holds s (opened_in caller ∷ reverse (map opened_in few.items)) k =
-    let P : ℕ → Type 0 = λ c. Holds s (opened_in caller ∷ reverse (map opened_in few.items)) (closed first c m) in
-    subst P counts.0 (closes (opened_in caller ∷ reverse (map opened_in few.items)) m
-    (let Q : List Opened → Type 0 = λ os. Holds old.store (opened_in old.frame ∷ os) m in subst Q (waits opened_in old.callers.items few.items caller popped) held.store)) in (
+    let holds : Holds s (opened_by caller ∷ reverse (map opened_by few.items)) k =
+    let P : ℕ → Type 0 = λ c. Holds s (opened_by caller ∷ reverse (map opened_by few.items)) (closed first c m) in
+    subst P counts.0 (closes (opened_by caller ∷ reverse (map opened_by few.items)) m
+    (let Q : List Opened → Type 0 = λ os. Holds old.store (opened_in old.frame ∷ os) m in subst Q (waits opened_by old.callers.items few.items caller popped) held.store)) in (
       k,
       (
         record { store = holds; counts = counts.1 },

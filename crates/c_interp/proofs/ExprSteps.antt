@@ -165,7 +165,7 @@ module _ (p : ProgramTree) (n : ℕ) (r : Result Unit Stop) (old new : Machine) 
   pub decided : (t : TypeTree) (v : Value) (d : Option Bool) (a b : Answer Reached) → d ≡ truth t v → branched t v a b ≡ on_defined d (λ x. if x then a else b)
   decided t v d a b is = ap (λ o. on_defined o (λ x. if x then a else b)) (sym is)
 
-  right : ExprTree → Memory → List ℕ → Answer Reached
+  abbrev right : ExprTree → Memory → List ℕ → Answer Reached
   right b m i =
       let y : Configuration = here m i in
       then_on (expr_run (context p n y) b (state_of y)) (λ q. then_on (branched (type_of b) q.value (given_word q.state 1) (given_word q.state 0)) (gives_value y))

@@ -1,5 +1,5 @@
 -- The frame of a call that begins, once its blocks are opened and its arguments taken.
-use Rattle.std.proofs.Common.{Vec, Global, ◌≡◌, ℕ, ◌-◌, List, [], ◌∷◌, ◌++◌, length, take, drop, map, reverse, refl, sym, ap, ◌∙◌, subst, absurd}
+use Rattle.std.proofs.Common.{Vec, Global, ◌≡◌, ℕ, ◌-◌, List, [], ◌∷◌, ◌++◌, length, take, drop, map, reverse, refl, sym, ap, ◌∙◌, subst}
 use Rattle.std.specs.Prelude.{Option, None, Some, slice_get, Result, Ok, Err}
 use Rattle.std.proofs.lemmas.List.{length-map}
 use Rattle.val_core.specs.declared.values.Value.{Value}
@@ -12,7 +12,7 @@ use Rattle.c_mean.specs.Run.{objects_of, params_in_scope, params_stored}
 use Rattle.c_interp_store.specs.declared.shape.Shape.{Shape}
 use Rattle.c_interp_store.specs.declared.store.Store.{Store}
 use Rattle.c_interp_store.specs.Blocks.{shape_of, shapes_of}
-use Rattle.c_interp_store.specs.Holding.{Opened, Holds, opened_of}
+use Rattle.c_interp_store.specs.Holding.{Opened, Holds}
 use Rattle.c_interp_def.specs.Configurations as def
 use Rattle.c_interp_def.specs.Configurations.{variables_in, variables_of, object_sizes}
 use Rattle.c_interp_def.specs.ExprTasks.{newest}
@@ -20,9 +20,9 @@ use Rattle.c_interp_def.specs.CallLaws.{call_memory}
 use Rattle.c_interp_layout.specs.declared.layout.Layout.{Layout}
 use Rattle.c_interp_layout.specs.Laid.{IsLayout}
 use Rattle.c_interp_expand.specs.TaskViews.{slots_of}
-use Rattle.c_interp.specs.declared.frame.Frame.{Frame}
+use Rattle.c_interp.specs.declared.frame.Active.{Active}
 use Rattle.c_interp.specs.declared.machine.Machine.{Machine}
-use Rattle.c_interp.specs.Machines.{frame_of, opened_in, config_of, IsHeld}
+use Rattle.c_interp.specs.Machines.{opened_by, config_of, IsHeld}
 use Rattle.c_interp.specs.Steps.{IsSomeHeld}
 use Rattle.c_interp.specs.Calls.{BeginsCall}
 use Rattle.c_interp.proofs.Steps.{calls_in}
@@ -33,7 +33,7 @@ frame_at f first depth slots = record { function = f; first = first; depth = dep
 
 -- the machine once the arguments were taken
 abbrev pub taken_from : Machine → Vec Value Global → Store → Machine
-taken_from m ops s = record { tasks = m.tasks; operands = ops; frame = m.frame; callers = m.callers; flow = m.flow; store = s }
+taken_from m ops s = record { tasks = m.tasks; operands = ops; frame = m.frame; slots = m.slots; callers = m.callers; flow = m.flow; store = s }
 
 abbrev pub Opens : Machine → List Shape → Opened → Store → Type 0
 Opens old shapes o s =
@@ -59,31 +59,32 @@ module _ (p : ProgramTree) (f count : ℕ) (fn : FunctionTree) (old : Machine) (
   pub begins_none : ((calls : List Opened) (m : Memory) → Holds s calls m → stored_in m ≡ None) → (m : Memory) → IsHeld p old m → call_memory p (config_of old m []) count fn ≡ None
   begins_none none m held = memory-is m held.store ∙ none (o ∷ calls_in old) (m ++ opened (shapes_of shapes)) (opens (calls_in old) m held.store).1
 
-  pub begins : (frame : Frame) (last : Store) (ops : Vec Value Global) → ((calls : List Opened) (m : Memory) → Holds s calls m → IsSomeHeld calls (stored_in m) last) →
-      opened_of frame.objects ≡ o → frame.function ≡ f → frame.depth ≡ old.frame.depth - 1 → slots_of frame.slots.items ≡ params_in_scope 0 params args →
+  pub begins : (active : Active) (last : Store) (ops : Vec Value Global) → ((calls : List Opened) (m : Memory) → Holds s calls m → IsSomeHeld calls (stored_in m) last) →
+      opened_by active ≡ o → active.frame.function ≡ f → active.frame.depth ≡ old.frame.depth - 1 → slots_of active.slots.items ≡ params_in_scope 0 params args →
       ops.items ≡ take (length old.operands.items - count) old.operands.items →
-      (m : Memory) → IsHeld p old m → BeginsCall p f count fn old (taken_from old ops last) frame m
-  begins frame last ops stores is_opened is_function is_depth slots taken m held =
+      (m : Memory) → IsHeld p old m → BeginsCall p f count fn old (taken_from old ops last) active m
+  begins active last ops stores is_opened is_function is_depth slots taken m held =
       by (stored_in (m ++ opened (shapes_of shapes))) refl (stores (o ∷ calls_in old) (m ++ opened (shapes_of shapes)) (opens (calls_in old) m held.store).1)
     where
       e : o ≡ record { first = length m; count = length shapes }
       e = (opens (calls_in old) m held.store).0
 
-      by : (q : Option Memory) → stored_in (m ++ opened (shapes_of shapes)) ≡ q → IsSomeHeld (o ∷ calls_in old) q last → BeginsCall p f count fn old (taken_from old ops last) frame m
+      by : (q : Option Memory) → stored_in (m ++ opened (shapes_of shapes)) ≡ q → IsSomeHeld (o ∷ calls_in old) q last → BeginsCall p f count fn old (taken_from old ops last) active m
       by None is h = absurd h
       by (Some k) is h = record {
         memory = k;
         stored = memory-is m held.store ∙ is;
         held = let P : Opened → Type 0 = λ q. Holds last (q ∷ calls_in old) k in subst P (sym is_opened) h;
-        frame = ap (λ a. frame_at a frame.objects.first frame.depth (slots_of frame.slots.items)) is_function
-            ∙ ap (λ a. frame_at f a frame.depth (slots_of frame.slots.items)) (ap (λ q. q.first) is_opened ∙ ap (λ q. q.first) e)
-            ∙ ap (λ a. frame_at f (length m) a (slots_of frame.slots.items)) is_depth
+        frame = ap (λ a. frame_at a active.frame.objects.first active.frame.depth (slots_of active.slots.items)) is_function
+            ∙ ap (λ a. frame_at f a active.frame.depth (slots_of active.slots.items)) (ap (λ q. q.first) is_opened ∙ ap (λ q. q.first) e)
+            ∙ ap (λ a. frame_at f (length m) a (slots_of active.slots.items)) is_depth
             ∙ ap (λ l. frame_at f (length m) (old.frame.depth - 1) l)
             (slots ∙ ap (λ ps. params_in_scope 0 ps args) are_params ∙ ap (params_in_scope 0 (params_of fn)) are_args);
         counted = ap (λ q. q.count) is_opened ∙ ap (λ q. q.count) e ∙ sym (length-map shapes shape_of) ∙ ap length laid;
         operands = ap reverse taken ∙ others-are count old.operands.items;
         tasks = refl;
         caller = refl;
+        slots = refl;
         callers = refl;
         flow = refl;
       }

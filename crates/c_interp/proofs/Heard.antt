@@ -42,25 +42,25 @@ heard_with w rest e = record { output = w; rest = rest; ending = e }
 pub rest-is : (did : List Event) (bytes rest : List ℕ) → taken did ≡ length bytes → drop (taken did) (bytes ++ rest) ≡ rest
 rest-is did bytes rest e = ap (λ k. drop k (bytes ++ rest)) e ∙ drop-first bytes rest
 
-pub heard-exit : {A : Type 0} (did : List Event) (bytes rest : List ℕ) (status : ℕ) → taken did ≡ length bytes →
+pub heard-exit : (A : Type 0) (did : List Event) (bytes rest : List ℕ) (status : ℕ) → taken did ≡ length bytes →
     heard_as (bytes ++ rest) (before did (let a : Answer A = Exited [] status in a)) ≡ heard_with (output did) rest (exit status)
-heard-exit {A} did bytes rest status e =
+heard-exit A did bytes rest status e =
     let a : Answer A = Exited [] status in
     ap (heard_as (bytes ++ rest)) (before-is did a)
     ∙ ap (λ l. heard_with (output l) (drop (taken l) (bytes ++ rest)) (exit status)) (append-nil did)
     ∙ ap (λ r. heard_with (output did) r (exit status)) (rest-is did bytes rest e)
 
-pub heard-cut : {A : Type 0} (did : List Event) (bytes rest : List ℕ) → taken did ≡ length bytes →
+pub heard-cut : (A : Type 0) (did : List Event) (bytes rest : List ℕ) → taken did ≡ length bytes →
     heard_as (bytes ++ rest) (before did (let a : Answer A = Cut [] in a)) ≡ heard_with (output did) rest cut
-heard-cut {A} did bytes rest e =
+heard-cut A did bytes rest e =
     let a : Answer A = Cut [] in
     ap (heard_as (bytes ++ rest)) (before-is did a)
     ∙ ap (λ l. heard_with (output l) (drop (taken l) (bytes ++ rest)) cut) (append-nil did)
     ∙ ap (λ r. heard_with (output did) r cut) (rest-is did bytes rest e)
 
-pub heard-undefined : {A : Type 0} (did : List Event) (bytes rest : List ℕ) → taken did ≡ length bytes →
+pub heard-undefined : (A : Type 0) (did : List Event) (bytes rest : List ℕ) → taken did ≡ length bytes →
     heard_as (bytes ++ rest) (before did (let a : Answer A = Undefined [] in a)) ≡ heard_with (output did) rest undefined
-heard-undefined {A} did bytes rest e =
+heard-undefined A did bytes rest e =
     let a : Answer A = Undefined [] in
     ap (heard_as (bytes ++ rest)) (before-is did a)
     ∙ ap (λ l. heard_with (output l) (drop (taken l) (bytes ++ rest)) undefined) (append-nil did)

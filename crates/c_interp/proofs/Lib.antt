@@ -12,4 +12,4 @@ mod Groups
 mod Arguments
 mod Frames
 mod Newest
-mod Streams
+mod Ports

@@ -200,10 +200,10 @@ module _ (p : ProgramTree) (n : ℕ) (first : Port) (m : Machine) (few : Vec Tas
 
   pub stopped-run : (reads writes : Type 0) (e : Ending) → IsStoppedAt reads writes (stop_of e) this → HasEnded n p (streams first) (streams last) reads writes e
   stopped-run reads writes (ending.Exit status) is =
-      some-run p n first m now last r (run.exit status) same (heard-then (Exited [] status) is ∙ heard-exit {A = Reached} r.did r.bytes here status r.count)
-  stopped-run reads writes ending.Cut is = some-run p n first m now last r run.cut same (heard-then (Cut []) is ∙ heard-cut {A = Reached} r.did r.bytes here r.count)
+      some-run p n first m now last r (run.exit status) same (heard-then (Exited [] status) is ∙ heard-exit Reached r.did r.bytes here status r.count)
+  stopped-run reads writes ending.Cut is = some-run p n first m now last r run.cut same (heard-then (Cut []) is ∙ heard-cut Reached r.did r.bytes here r.count)
   stopped-run reads writes ending.Undefined is =
-      some-run p n first m now last r run.undefined same (heard-then (Undefined []) is ∙ heard-undefined {A = Reached} r.did r.bytes here r.count)
+      some-run p n first m now last r run.undefined same (heard-then (Undefined []) is ∙ heard-undefined Reached r.did r.bytes here r.count)
   stopped-run reads writes ending.ReadFault is = (is, part p n first m now last r same)
   stopped-run reads writes ending.WriteFault is = (is, part p n first m now last r same)
 

@@ -1,5 +1,5 @@
 -- What tasks of statements do: parts that become tasks, loops, jumps, and variables that begin.
-use Rattle.std.proofs.Common.{Vec, Global, ◌≡◌, ℕ, suc, zero, true, false, List, [], ◌∷◌, refl, sym, ap, absurd}
+use Rattle.std.proofs.Common.{Vec, Global, ◌≡◌, ℕ, suc, zero, true, false, List, [], ◌∷◌, refl, sym, ap}
 use Rattle.std.specs.Prelude.{Option, None, Some, option_map, Ok, Err}
 use Rattle.std.proofs.lemmas.Bool.{false≢true}
 use Rattle.val_core.specs.declared.values.Value.{Value}

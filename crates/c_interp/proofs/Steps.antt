@@ -1,5 +1,5 @@
 -- Steps of which the task is a part: operands that were taken before it, and tasks that come after it.
-use Rattle.std.proofs.Common.{Vec, Global, ◌≡◌, ℕ, ◌+◌, ◌<◌, List, [], ◌∷◌, ◌++◌, map, reverse, length, vec_len, refl, sym, ap, ◌∙◌, subst, absurd, arith}
+use Rattle.std.proofs.Common.{Vec, Global, ◌≡◌, ℕ, ◌+◌, ◌<◌, List, [], ◌∷◌, ◌++◌, map, reverse, length, vec_len, refl, sym, ap, ◌∙◌, subst, arith}
 use Rattle.std.specs.Prelude.{Option, None, Some, Result, Ok, Err}
 use Rattle.std.proofs.lemmas.List.{append-nil, reverse-append}
 use Rattle.val_core.specs.declared.values.Value.{Value}
@@ -20,7 +20,7 @@ use Rattle.c_interp_expand.specs.TaskViews.{task_of, tasks_of, flow_of}
 use Rattle.c_interp.specs.declared.stop.Stop.{Stop}
 use Rattle.c_interp.specs.declared.stop.Stop.TheVariants as stop
 use Rattle.c_interp.specs.declared.machine.Machine.{Machine}
-use Rattle.c_interp.specs.Machines.{config_of, reached_of, opened_in, IsHeld}
+use Rattle.c_interp.specs.Machines.{config_of, reached_of, opened_in, opened_by, IsHeld}
 use Rattle.c_interp_def.specs.declared.task.Flow.TheVariants.{Normal}
 use Rattle.c_interp.specs.Steps.{IsEnd, IsStopped, IsDone, IsStep, undefined_run, nothing_run}
 use Rattle.c_interp.proofs.Heard.{heard-equal}
@@ -73,19 +73,19 @@ pub same_step : (p : ProgramTree) (n : ℕ) (r : Result Unit Stop) (old new : Ma
     ((m : Memory) (i : List ℕ) → IsHeld p old m → run (config_of old m i) ≡ run' (config_of old m i)) → IsStep p n r old new run' → IsStep p n r old new run
 same_step p n (Ok u) old new run run' e step m held =
     done-same p n old new (λ i. run (config_of old m i)) (λ i. run' (config_of old m i)) (λ i. e m i held) (step m held)
-same_step p n (Err s) old new run run' e step m held i = stopped-same s (run (config_of old m i)) (run' (config_of old m i)) (e m i held) (step m held i)
+same_step p n (Err s) old new run run' e step m held = λ i. stopped-same s (run (config_of old m i)) (run' (config_of old m i)) (e m i held) (step m held i)
 
 -- the blocks of the calls of a machine, of which the newest stands first
 abbrev pub calls_in : Machine → List Opened
-calls_in m = opened_in m.frame ∷ reverse (map opened_in m.callers.items)
+calls_in m = opened_in m.frame ∷ reverse (map opened_by m.callers.items)
 
 -- ---- operands that were taken
 
 abbrev pub with_ops : Machine → Vec Value Global → Machine
-with_ops m vs = record { tasks = m.tasks; operands = vs; frame = m.frame; callers = m.callers; flow = m.flow; store = m.store }
+with_ops m vs = record { tasks = m.tasks; operands = vs; frame = m.frame; slots = m.slots; callers = m.callers; flow = m.flow; store = m.store }
 
 abbrev pub with_tasks : Machine → Vec Left Global → Machine
-with_tasks m ts = record { tasks = ts; operands = m.operands; frame = m.frame; callers = m.callers; flow = m.flow; store = m.store }
+with_tasks m ts = record { tasks = ts; operands = m.operands; frame = m.frame; slots = m.slots; callers = m.callers; flow = m.flow; store = m.store }
 
 -- the newest operands first
 pub newest-one : (few many : List Value) (v : Value) → many ≡ few ++ v ∷ [] → reverse many ≡ v ∷ reverse few
@@ -115,7 +115,8 @@ taken p n (Ok u) old new few vs run run' e does step m held =
           ∙ ap (λ c. heard_as j (before o (then_on c rest))) (does m i held)
           ∙ d.same i rest j o;
     }
-taken p n (Err s) old new few vs run run' e does step m held i =
+taken p n (Err s) old new few vs run run' e does step m held =
+    λ i.
     let held' : IsHeld p (with_ops old few) m = record { store = held.store; counts = held.counts } in
     stopped-same s (run (config_of old m i)) (run' (config_of (with_ops old few) m i))
     (ap (λ xs. run (with_operands (config_of old m i) xs)) e ∙ does m i held) (step m held' i)
@@ -126,11 +127,11 @@ short-one : (vs : List Value) → length vs < 1 → vs ≡ []
 short-one [] h = refl
 short-one (v ∷ vs) h = absurd (omega arith)
 
-pub none_taken : (p : ProgramTree) (n : ℕ) (old new : Machine) (run : Configuration → Answer Reached) → length old.operands.items ≡ 0 →
+pub none_taken : (p : ProgramTree) (n : ℕ) (old new : Machine) (run : Configuration → Answer Reached) → vec_len old.operands ≡ 0 →
     ((x : Configuration) → run (with_operands x []) ≡ Undefined []) → IsStep p n (Err stop.Undefined) old new run
 none_taken p n old new run h e =
     undefined_step p n old new run
-    (λ m i held. ap (λ xs. run (with_operands (config_of old m i) (reverse xs))) (short-one old.operands.items (omega (arith, h))) ∙ e (config_of old m i))
+    (λ m i held. ap (λ xs. run (with_operands (config_of old m i) (reverse xs))) (short-one old.operands.items (omega (arith, h, old.operands.ok.0))) ∙ e (config_of old m i))
 
 none_of_two : (vs : List Value) → length vs < 2 → (next : Value → Value → Configuration → Answer Reached) (x : Configuration) → on_operands (with_operands x (reverse vs)) next ≡ Undefined []
 none_of_two [] h next x = refl
@@ -167,7 +168,8 @@ moved p n (Ok u) old mid new run run' tasks at step m held =
       held = d.held;
       same = λ i rest j o. ap (λ c. heard_as j (before o (then_on c rest))) (does i) ∙ d.same i rest j o;
     }
-moved p n (Err s) old mid new run run' tasks at step m held i =
+moved p n (Err s) old mid new run run' tasks at step m held =
+    λ i.
     let (k, held', does) = at m held in
     stopped-same s (run (config_of old m i)) (run' (config_of mid k i)) (does i) (step k held' i)
 
@@ -190,7 +192,7 @@ put_step p n u old many ts run e tasks does m held =
 -- ---- a memory that is changed
 
 abbrev pub with_store : Machine → Store → Machine
-with_store m s = record { tasks = m.tasks; operands = m.operands; frame = m.frame; callers = m.callers; flow = m.flow; store = s }
+with_store m s = record { tasks = m.tasks; operands = m.operands; frame = m.frame; slots = m.slots; callers = m.callers; flow = m.flow; store = s }
 
 pub changed_step : (p : ProgramTree) (n : ℕ) (u : Unit) (old : Machine) (s : Store) (run : Configuration → Answer Reached) → old.flow ≡ Normal →
     ((m : Memory) → IsHeld p old m → (k : Memory) × Holds s (calls_in old) k × ((i : List ℕ) → run (config_of old m i) ≡ reaches normal (config_of old k i))) →

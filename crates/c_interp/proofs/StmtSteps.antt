@@ -1,5 +1,5 @@
 -- Steps of tasks of statements, of variables and of jumps.
-use Rattle.std.proofs.Common.{Vec, Global, ◌≡◌, ℕ, ◌-◌, ◌%◌, Bool, true, false, List, [], ◌∷◌, ◌++◌, length, take, map, reverse, refl, sym, ap, ◌∙◌, subst, absurd}
+use Rattle.std.proofs.Common.{Vec, Global, ◌≡◌, ℕ, ◌-◌, ◌%◌, Bool, true, false, List, [], ◌∷◌, ◌++◌, length, take, map, reverse, refl, sym, ap, ◌∙◌, subst}
 use Rattle.std.specs.Prelude.{Option, None, Some, option_map, slice_get, slice_set, vec_len, if◌then◌else◌, Result, Ok, Err}
 use Rattle.std.proofs.lemmas.Bool.{false≢true}
 use Rattle.std.proofs.lemmas.List.{map-append, take-map, length-map}
@@ -26,18 +26,18 @@ use Rattle.c_interp_def.specs.ExprTasks as task
 use Rattle.c_interp_def.specs.ExprTasks.{context, expr_task_run}
 use Rattle.c_interp_def.specs.StmtTasks as stmt
 use Rattle.c_interp_def.specs.StmtTasks.{of_stmt, entered, groups_run, body_of, stmt_task_run, handler_run}
+use Rattle.c_interp_def.specs.declared.task.Task.{Task as Left}
 use Rattle.c_interp_def.specs.declared.task.Slot.{Slot}
 use Rattle.c_interp_def.specs.declared.task.Slot.TheVariants.{Holds as HeldSlot}
 use Rattle.c_interp_def.specs.declared.task.Flow.{Flow}
 use Rattle.c_interp_def.specs.declared.task.Flow.TheVariants.{Normal, Broke, Continued, Returned as JumpedBack}
-use Rattle.c_interp_expand.specs.TaskViews.{slot_of, slots_of, flow_of}
-use Rattle.c_interp.specs.declared.frame.Frame.{Frame}
+use Rattle.c_interp_expand.specs.TaskViews.{tasks_of, slot_of, slots_of, flow_of}
 use Rattle.c_interp.specs.declared.stop.Stop.{Stop}
 use Rattle.c_interp.specs.declared.stop.Stop.TheVariants as stop
 use Rattle.c_interp.specs.declared.machine.Machine.{Machine}
-use Rattle.c_interp.specs.Machines.{config_of, reached_of, opened_in, IsHeld}
+use Rattle.c_interp.specs.Machines.{config_of, reached_of, opened_in, opened_by, IsHeld}
 use Rattle.c_interp.specs.Steps.{IsStep, undefined_run, nothing_run, tasks_do, give_run, choose_run, store_run, with_frame_slots, number, slot_read, slot_address, slot_begun, turns_do, asked_do, IsSomeHeld, IsStored}
-use Rattle.c_interp.proofs.Steps.{with_ops, with_store, calls_in, newest-one, done_at_once, undefined_step, nothing_step, same_step, changed_step, end-exit}
+use Rattle.c_interp.proofs.Steps.{with_ops, with_tasks, with_store, calls_in, newest-one, done_at_once, done_by, undefined_step, nothing_step, same_step, changed_step, end-exit}
 use Rattle.c_interp.proofs.ExprSteps.{one, here, decided}
 use Rattle.c_interp.proofs.Operators.{slot-gives, address-gives}
 use Rattle.c_interp.proofs.Statements.{entered-is, store-begins, zeros-are, asked-while}
@@ -67,29 +67,26 @@ no_operand p n old new few v o run next e none does =
 
 -- ---- variables that hold a value, and addresses
 
-pub slot_step : (p : ProgramTree) (n : ℕ) (r : Result Unit Stop) (old new : Machine) (k : ℕ) (t : TypeTree) (w : Option Value) → w ≡ slot_read (slice_get (slots_of old.frame.slots.items) k) →
+pub slot_step : (p : ProgramTree) (n : ℕ) (r : Result Unit Stop) (old new : Machine) (k : ℕ) (t : TypeTree) (w : Option Value) → w ≡ slot_read (slice_get (slots_of old.slots.items) k) →
     IsStep p n r old new (give_run w) → IsStep p n r old new (expr_task_run p n (task.load_slot k t))
 slot_step p n r old new k t w is step =
     same_step p n r old new (expr_task_run p n (task.load_slot k t)) (give_run w)
     (λ m i held. slot-gives t k (config_of old m i) ∙ ap (λ u. give_run u (config_of old m i)) (sym is)) step
 
 pub local_step : (p : ProgramTree) (n : ℕ) (r : Result Unit Stop) (old new : Machine) (k : ℕ) (w : Option Value) →
-    w ≡ slot_address (address_in old.frame.objects.first (object_sizes p (variables_of p old.frame.function))) (slice_get (slots_of old.frame.slots.items) k) →
+    w ≡ slot_address (address_in old.frame.objects.first (object_sizes p (variables_of p old.frame.function))) (slice_get (slots_of old.slots.items) k) →
     IsStep p n r old new (give_run w) → IsStep p n r old new (expr_task_run p n (task.local_at k))
 local_step p n r old new k w is step =
     same_step p n r old new (expr_task_run p n (task.local_at k)) (give_run w)
-    (λ m i held. let x : Configuration = config_of old m i in address-gives (context p n x) k (slice_get (slots_of old.frame.slots.items) k) x ∙ ap (λ u. give_run u x) (sym is)) step
+    (λ m i held. let x : Configuration = config_of old m i in address-gives (context p n x) k (slice_get (slots_of old.slots.items) k) x ∙ ap (λ u. give_run u x) (sym is)) step
 
 pub global_step : (p : ProgramTree) (n : ℕ) (r : Result Unit Stop) (old new : Machine) (k : ℕ) (v : Value) → v ≡ address_in 0 (global_sizes p) k →
     IsStep p n r old new (give_run (Some v)) → IsStep p n r old new (expr_task_run p n (task.global_at k))
 global_step p n r old new k v is step =
     same_step p n r old new (expr_task_run p n (task.global_at k)) (give_run (Some v)) (λ m i held. ap (λ u. give_run (Some u) (config_of old m i)) (sym is)) step
 
-abbrev pub framed : Frame → Vec Slot Global → Frame
-framed f s = record f { slots = s }
-
 abbrev pub with_slots : Machine → Vec Slot Global → Machine
-with_slots m s = record { tasks = m.tasks; operands = m.operands; frame = framed m.frame s; callers = m.callers; flow = m.flow; store = m.store }
+with_slots m s = record { tasks = m.tasks; operands = m.operands; frame = m.frame; slots = s; callers = m.callers; flow = m.flow; store = m.store }
 
 -- the end of the program
 pub exit_step : (p : ProgramTree) (n : ℕ) (old new : Machine) (few : Vec Value Global) (v : Value) (w status : ℕ) → old.operands.items ≡ few.items ++ v ∷ [] → number v ≡ Some w → status ≡ w % 256 →
@@ -123,11 +120,11 @@ module _ (p : ProgramTree) (n : ℕ) (r : Result Unit Stop) (old new : Machine) 
       step
 
   -- a condition that is true
-  pub asked_true : (v : Value) (t : TypeTree) (yes : Configuration → Answer Reached) → old.operands.items ≡ few.items ++ v ∷ [] → Some true ≡ truth t v →
-      IsStep p n r (with_ops old few) new yes → IsStep p n r old new (asked_do t yes)
-  asked_true v t yes popped is step =
-      one p n r old new few v (asked_do t yes) yes popped
-      (λ m i held. let y : Configuration = here p n r old new few m i in decided p n r old new few t v (Some true) (yes y) (reaches normal y) is) step
+  pub asked_true : (v : Value) (t : TypeTree) (next : Configuration → Answer Reached) → old.operands.items ≡ few.items ++ v ∷ [] → Some true ≡ truth t v →
+      IsStep p n r (with_ops old few) new next → IsStep p n r old new (asked_do t next)
+  asked_true v t next popped is step =
+      one p n r old new few v (asked_do t next) next popped
+      (λ m i held. let y : Configuration = here p n r old new few m i in decided p n r old new few t v (Some true) (next y) (reaches normal y) is) step
 
   pub begin_step : (v : Value) (k : ℕ) (t : TypeTree) (at : Value) (w : Option Value) → old.operands.items ≡ few.items ++ v ∷ [] →
       at ≡ address_in old.frame.objects.first (object_sizes p (variables_of p old.frame.function)) k → w ≡ used_value v →
@@ -151,18 +148,18 @@ module _ (p : ProgramTree) (n : ℕ) (r : Result Unit Stop) (old new : Machine) 
       store-begins t object v y ∙ ap (λ a. store_run t a (used_value v) y) (sym is) ∙ ap (λ u. store_run t at u y) (sym used_is))
       step
 
-pub asked_false : (p : ProgramTree) (n : ℕ) (u : Unit) (old : Machine) (few : Vec Value Global) (v : Value) (t : TypeTree) (yes : Configuration → Answer Reached) → old.flow ≡ Normal →
-    old.operands.items ≡ few.items ++ v ∷ [] → Some false ≡ truth t v → IsStep p n (Ok u) old (with_ops old few) (asked_do t yes)
-asked_false p n u old few v t yes flow popped is =
-    one p n (Ok u) old (with_ops old few) few v (asked_do t yes) nothing_run popped
+pub asked_false : (p : ProgramTree) (n : ℕ) (u : Unit) (old : Machine) (few : Vec Value Global) (v : Value) (t : TypeTree) (next : Configuration → Answer Reached) → old.flow ≡ Normal →
+    old.operands.items ≡ few.items ++ v ∷ [] → Some false ≡ truth t v → IsStep p n (Ok u) old (with_ops old few) (asked_do t next)
+asked_false p n u old few v t next flow popped is =
+    one p n (Ok u) old (with_ops old few) few v (asked_do t next) nothing_run popped
     (λ m i held.
-    let y : Configuration = here p n (Ok u) old (with_ops old few) few m i in decided p n (Ok u) old (with_ops old few) few t v (Some false) (yes y) (reaches normal y) is)
+    let y : Configuration = here p n (Ok u) old (with_ops old few) few m i in decided p n (Ok u) old (with_ops old few) few t v (Some false) (next y) (reaches normal y) is)
     (nothing_step p n u (with_ops old few) flow)
 
 -- ---- jumps
 
 abbrev pub with_flow : Machine → Flow → Machine
-with_flow m f = record { tasks = m.tasks; operands = m.operands; frame = m.frame; callers = m.callers; flow = f; store = m.store }
+with_flow m f = record { tasks = m.tasks; operands = m.operands; frame = m.frame; slots = m.slots; callers = m.callers; flow = f; store = m.store }
 
 -- a jump takes another course
 pub flow_step : (p : ProgramTree) (n : ℕ) (u : Unit) (old : Machine) (f : Flow) (run : Configuration → Answer Reached) → ((x : Configuration) → run x ≡ reaches (flow_of f) x) → IsStep p n (Ok u) old (with_flow old f) run
@@ -185,6 +182,14 @@ switch-stays p n Normal x h = refl
 switch-stays p n Broke x h = absurd (h refl)
 switch-stays p n Continued x h = refl
 switch-stays p n (JumpedBack v) x h = refl
+
+-- a loop goes on
+pub on_step : (p : ProgramTree) (n : ℕ) (u : Unit) (old : Machine) (many : Vec Left Global) (ts : List stmt.Task) → tasks_of many.items ≡ tasks_of old.tasks.items ++ ts →
+    IsStep p n (Ok u) old (with_flow (with_tasks old many) Normal) (tasks_do p n ts)
+on_step p n u old many ts put m held =
+    let last : Machine = with_flow (with_tasks old many) Normal in
+    let held' : IsHeld p last m = record { store = held.store; counts = held.counts } in
+    done_by p n old last (λ i. tasks_do p n ts (config_of old m i)) ts m put held' (λ i. refl)
 
 -- ---- scopes
 
@@ -235,7 +240,7 @@ not_cleared_step p n old new s k at is clears =
     by m i (Some j) e h = absurd (false≢true h.0)
 
 -- a variable comes into scope
-pub enter_step : (p : ProgramTree) (n : ℕ) (u : Unit) (old : Machine) (s : Vec Slot Global) (k : ℕ) (slot : Slot) → old.flow ≡ Normal → s.items ≡ old.frame.slots.items ++ slot ∷ [] →
+pub enter_step : (p : ProgramTree) (n : ℕ) (u : Unit) (old : Machine) (s : Vec Slot Global) (k : ℕ) (slot : Slot) → old.flow ≡ Normal → s.items ≡ old.slots.items ++ slot ∷ [] →
     Some (slot_of slot) ≡ slot_begun (variables_of p old.frame.function) k (slice_get (variables_of p old.frame.function) k) → IsStep p n (Ok u) old (with_slots old s) (stmt_task_run p n (stmt.enter k))
 enter_step p n u old s k slot flow pushed is =
     slots_step p n u old s (stmt_task_run p n (stmt.enter k))
@@ -243,7 +248,7 @@ enter_step p n u old s k slot flow pushed is =
     let x : Configuration = config_of old m i in
     let vs : List VariableTree = variables_of p old.frame.function in
     ap (λ o. on_defined o (goes_on_at x)) (entered-is vs k (slice_get vs k) (state_of x) ∙ ap (option_map (in_scope (state_of x))) (sym is))
-    ∙ ap (λ q. reaches normal (with_frame_slots x q)) (sym (ap slots_of pushed ∙ map-append slot_of old.frame.slots.items (slot ∷ [])))
+    ∙ ap (λ q. reaches normal (with_frame_slots x q)) (sym (ap slots_of pushed ∙ map-append slot_of old.slots.items (slot ∷ [])))
     ∙ ap (λ f. reaches (flow_of f) (config_of (with_slots old s) m i)) (sym flow))
 
 pub not_entered_step : (p : ProgramTree) (n : ℕ) (old new : Machine) (k : ℕ) → None ≡ slot_begun (variables_of p old.frame.function) k (slice_get (variables_of p old.frame.function) k) →
@@ -257,7 +262,7 @@ not_entered_step p n old new k is =
 
 -- the newest variable takes a value
 pub slot_begun_step : (p : ProgramTree) (n : ℕ) (u : Unit) (old : Machine) (few : Vec Value Global) (s : Vec Slot Global) (v w : Value) → old.flow ≡ Normal → old.operands.items ≡ few.items ++ v ∷ [] →
-    used_value v ≡ Some w → s.items ≡ take (length old.frame.slots.items - 1) old.frame.slots.items ++ HeldSlot w ∷ [] → IsStep p n (Ok u) old (with_slots (with_ops old few) s) (stmt_task_run p n stmt.begin_slot)
+    used_value v ≡ Some w → s.items ≡ take (length old.slots.items - 1) old.slots.items ++ HeldSlot w ∷ [] → IsStep p n (Ok u) old (with_slots (with_ops old few) s) (stmt_task_run p n stmt.begin_slot)
 slot_begun_step p n u old few s v w flow popped is pushed =
     let last : Machine = with_slots (with_ops old few) s in
     let written : Value → Configuration → Answer Reached = λ z y. goes_on_at y (newest_written (state_of y) z) in
@@ -266,17 +271,17 @@ slot_begun_step p n u old few s v w flow popped is pushed =
     (slots_step p n u (with_ops old few) s (written w)
     (λ m i.
     let x : Configuration = config_of (with_ops old few) m i in
-    let slots : List Slot = old.frame.slots.items in
+    let slots : List Slot = old.slots.items in
     let same : slots_of s.items ≡ take (length (slots_of slots) - 1) (slots_of slots) ++ holds w ∷ [] =
     ap slots_of pushed ∙ map-append slot_of (take (length slots - 1) slots) (HeldSlot w ∷ [])
     ∙ ap (λ l. l ++ holds w ∷ []) (sym (take-map slot_of (length slots - 1) slots) ∙ ap (λ c. take (c - 1) (slots_of slots)) (sym (length-map slots slot_of))) in
     ap (λ q. reaches normal (with_frame_slots x q)) (sym same) ∙ ap (λ f. reaches (flow_of f) (config_of last m i)) (sym flow)))
 
-pub scope_step : (p : ProgramTree) (n : ℕ) (u : Unit) (old : Machine) (s : Vec Slot Global) (count : ℕ) → s.items ≡ take count old.frame.slots.items →
+pub scope_step : (p : ProgramTree) (n : ℕ) (u : Unit) (old : Machine) (s : Vec Slot Global) (count : ℕ) → s.items ≡ take count old.slots.items →
     IsStep p n (Ok u) old (with_slots old s) (handler_run p n (stmt.end_scope count) (flow_of old.flow))
 scope_step p n u old s count is =
     slots_step p n u old s (handler_run p n (stmt.end_scope count) (flow_of old.flow))
-    (λ m i. ap (λ q. reaches (flow_of old.flow) (with_frame_slots (config_of old m i) q)) (take-map slot_of count old.frame.slots.items ∙ ap slots_of (sym is)))
+    (λ m i. ap (λ q. reaches (flow_of old.flow) (with_frame_slots (config_of old m i) q)) (take-map slot_of count old.slots.items ∙ ap slots_of (sym is)))
 
 -- characters are stored
 pub characters_step : (p : ProgramTree) (n : ℕ) (r : Result Unit Stop) (old : Machine) (s : Store) (k o : ℕ) (cs : List ℕ) (object : Value) → old.flow ≡ Normal →

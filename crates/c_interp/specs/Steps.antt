@@ -148,7 +148,7 @@ turns_do p n ts x = tasks_or_cut p n ts (normally x)
 
 -- where the newest operand is true this is done
 abbrev pub asked_do : TypeTree → (Configuration → Answer Reached) → Configuration → Answer Reached
-asked_do t yes x = on_operand x (λ v y. branched t v (yes y) (reaches normal y))
+asked_do t next x = on_operand x (λ v y. branched t v (next y) (reaches normal y))
 
 -- ---- what begins
 

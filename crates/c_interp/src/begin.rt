@@ -11,6 +11,7 @@ ghost use Rattle.c_interp_def.specs.Configurations.{variables_of};
 ghost use Rattle.c_interp_def.specs.declared.task.Flow.TheVariants.{Normal};
 ghost use Rattle.c_interp_def.specs.StmtTasks as stmt;
 ghost use Rattle.c_interp_def.specs.StmtTasks.{stmt_task_run};
+ghost use Rattle.c_interp_layout.specs.Laid.{IsLaid};
 ghost use Rattle.c_interp.specs.Steps.{IsStep, slot_begun, IsStored};
 
 use crate::machine::{Machine, Program};
@@ -27,6 +28,7 @@ use val_core::Value;
 
 // The slot of a variable of a function as it comes into scope.
 fn slot_begun<'a>(program: Program<'a>, function: u32, variable: u32) -> Option<Slot>
+    requires laid { IsLaid program.typed.now program.layouts.now }
     ensures { option_map slot_of result
         ≡ slot_begun (variables_of program.entry.typed.now function) variable
         (slice_get (variables_of program.entry.typed.now function) variable) }
@@ -45,14 +47,15 @@ pub(crate) fn enter<'a>(
     program: Program<'a>,
     variable: u32,
 ) -> Result<(), Stop>
-    requires { machine.old.flow ≡ Normal }
+    requires laid { IsLaid program.typed.now program.layouts.now }
+    requires normal { machine.old.flow ≡ Normal }
     ensures { (n : ℕ) → IsStep program.entry.typed.now n result machine.old machine.new
         (stmt_task_run program.entry.typed.now n (stmt.enter variable)) }
 {
     let Some(slot) = slot_begun(program, machine.frame.function, variable) else {
         return Err(Stop::Undefined);
     };
-    machine.frame.slots.push(slot)?;
+    machine.slots.push(slot)?;
     Ok(())
 }
 
@@ -68,8 +71,8 @@ pub(crate) fn begin_slot(machine: &mut Machine) -> Result<(), Stop>
     let Some(w) = used(v) else {
         return Err(Stop::Undefined);
     };
-    machine.frame.slots.pop();
-    machine.frame.slots.push(Slot::Holds(w))?;
+    machine.slots.pop();
+    machine.slots.push(Slot::Holds(w))?;
     Ok(())
 }
 
@@ -80,7 +83,8 @@ pub(crate) fn begin_object<'a>(
     number: u32,
     t: &CType,
 ) -> Result<(), Stop>
-    requires { machine.old.flow ≡ Normal }
+    requires laid { IsLaid program.typed.now program.layouts.now }
+    requires normal { machine.old.flow ≡ Normal }
     ensures { (n : ℕ) → IsStep program.entry.typed.now n result machine.old machine.new
         (stmt_task_run program.entry.typed.now n (stmt.begin_object number t.now)) }
 {
@@ -97,7 +101,8 @@ pub(crate) fn clear_object<'a>(
     program: Program<'a>,
     number: u32,
 ) -> Result<(), Stop>
-    requires { machine.old.flow ≡ Normal }
+    requires laid { IsLaid program.typed.now program.layouts.now }
+    requires normal { machine.old.flow ≡ Normal }
     ensures { (n : ℕ) → IsStep program.entry.typed.now n result machine.old machine.new
         (stmt_task_run program.entry.typed.now n (stmt.clear_object number)) }
 {
@@ -130,7 +135,8 @@ pub(crate) fn begin_element<'a>(
     offset: u32,
     t: &CType,
 ) -> Result<(), Stop>
-    requires { machine.old.flow ≡ Normal }
+    requires laid { IsLaid program.typed.now program.layouts.now }
+    requires normal { machine.old.flow ≡ Normal }
     ensures { (n : ℕ) → IsStep program.entry.typed.now n result machine.old machine.new
         (stmt_task_run program.entry.typed.now n (stmt.begin_element number offset t.now)) }
 {
@@ -177,7 +183,8 @@ pub(crate) fn begin_characters<'a>(
     offset: u32,
     characters: &'a Bytes,
 ) -> Result<(), Stop>
-    requires { machine.old.flow ≡ Normal }
+    requires laid { IsLaid program.typed.now program.layouts.now }
+    requires normal { machine.old.flow ≡ Normal }
     ensures { (n : ℕ) → IsStep program.entry.typed.now n result machine.old machine.new
         (stmt_task_run program.entry.typed.now n (stmt.begin_characters number offset characters.now)) }
 {

@@ -14,10 +14,11 @@ ghost use Rattle.c_interp_def.specs.ExprTasks as task;
 ghost use Rattle.c_interp_def.specs.ExprTasks.{expr_task_run};
 ghost use Rattle.c_interp_def.specs.StmtTasks as stmt;
 ghost use Rattle.c_interp_def.specs.StmtTasks.{handler_run};
+ghost use Rattle.c_interp_layout.specs.Laid.{IsLaid};
 ghost use Rattle.c_interp.specs.Steps.{IsStep, IsStored};
 ghost use Rattle.c_interp.specs.Calls.{IsFrame, IsEntered};
 
-use crate::frame::Frame;
+use crate::frame::{Active, Frame};
 use crate::machine::{Machine, Program};
 use crate::operands::give;
 use crate::stop::Stop;
@@ -41,18 +42,20 @@ pub(crate) fn call<'a>(
     function: u32,
     count: usize,
 ) -> Result<(), Stop>
-    requires { machine.old.flow ≡ Normal }
+    requires laid { IsLaid program.typed.now program.layouts.now }
+    requires normal { machine.old.flow ≡ Normal }
     ensures { (n : ℕ) → IsStep program.entry.typed.now n result machine.old machine.new
         (expr_task_run program.entry.typed.now n (task.call function count)) }
 {
     if machine.frame.depth == 0 {
         return Err(Stop::Cut);
     }
-    let Some(f) = program.typed.functions.get(function as usize) else {
+    let typed = program.typed;
+    let Some(f) = typed.functions.get(function as usize) else {
         return Err(Stop::Undefined);
     };
     match frame_of(machine, alloc, program, function, f, count) {
-        Ok(frame) => enter(machine, frame, f),
+        Ok(active) => enter(machine, active, f),
         Err(stop) => Err(stop),
     }
 }
@@ -65,12 +68,14 @@ fn frame_of<'a>(
     function: u32,
     f: &'a TFunction,
     count: usize,
-) -> Result<Frame, Stop>
+) -> Result<Active, Stop>
+    requires laid { IsLaid program.typed.now program.layouts.now }
     requires there { slice_get program.typed.now.functions function ≡ Some f.now }
     requires depth { 0 < machine.old.frame.depth }
     ensures { IsFrame program.entry.typed.now function count f.now machine.old machine.new result }
 {
-    let Some(layout) = program.layouts.functions.get(function as usize) else {
+    let layouts = program.layouts;
+    let Some(layout) = layouts.functions.get(function as usize) else {
         return Err(Stop::Undefined);
     };
     let objects = machine.store.open(alloc, &layout.shapes)?;
@@ -91,12 +96,13 @@ fn frame_of<'a>(
     match taken {
         Ok(slots) => {
             machine.operands.truncate(first);
-            Ok(Frame {
+            let depth = machine.frame.depth - 1;
+            let frame = Frame {
                 function,
                 objects,
-                depth: machine.frame.depth - 1,
-                slots,
-            })
+                depth,
+            };
+            Ok(Active { frame, slots })
         }
         Err(stop) => Err(stop),
     }
@@ -113,6 +119,7 @@ fn take_arguments<'a>(
     arguments: &[Value],
     store: &mut Store,
 ) -> Result<Vec<Slot>, Stop>
+    requires laid { IsLaid program.typed.now program.layouts.now }
     requires fit { first < 2 ^ 63 }
     requires few { length params.now < 2 ^ 32 }
     ensures stored { (calls : List Opened) (m : Memory) → Holds store.old calls m →
@@ -152,12 +159,13 @@ fn argument_at(arguments: &[Value], i: usize) -> Value
 }
 
 // The call begins, and its caller waits.
-fn enter<'a>(machine: &mut Machine<'a>, frame: Frame, f: &'a TFunction) -> Result<(), Stop>
+fn enter<'a>(machine: &mut Machine<'a>, active: Active, f: &'a TFunction) -> Result<(), Stop>
     requires { machine.old.flow ≡ Normal }
-    ensures { IsEntered frame f.now machine.old machine.new result }
+    ensures { IsEntered active f.now machine.old machine.new result }
 {
-    let caller = replace(&mut machine.frame, frame);
-    machine.callers.push(caller)?;
+    let frame = replace(&mut machine.frame, active.frame);
+    let slots = replace(&mut machine.slots, active.slots);
+    machine.callers.push(Active { frame, slots })?;
     machine.tasks.push(Task::Handler(Handler::EndCall))?;
     machine
         .tasks
@@ -179,15 +187,18 @@ fn value_at_end(is_main: bool, flow: Flow) -> Value
 
 /// The newest call has ended: the caller goes on with its value.
 pub(crate) fn end_call<'a>(machine: &mut Machine<'a>, program: Program<'a>) -> Result<(), Stop>
+    requires laid { IsLaid program.typed.now program.layouts.now }
     ensures { (n : ℕ) → IsStep program.entry.typed.now n result machine.old machine.new
         (handler_run program.entry.typed.now n stmt.end_call (flow_of machine.old.flow)) }
 {
-    let value = value_at_end(machine.frame.function == program.typed.main, machine.flow);
+    let typed = program.typed;
+    let value = value_at_end(machine.frame.function == typed.main, machine.flow);
     let Some(caller) = machine.callers.pop() else {
         return Err(Stop::Undefined);
     };
-    let ended = replace(&mut machine.frame, caller);
-    machine.store.close(ended.objects);
+    machine.store.close(machine.frame.objects);
+    machine.frame = caller.frame;
+    machine.slots = caller.slots;
     machine.flow = Flow::Normal;
     give(machine, Some(value))
 }

@@ -25,7 +25,7 @@ pub(crate) fn two(operands: &mut Vec<Value>) -> Option<(Value, Value)>
 /// The three newest operands, the newest one last.
 pub(crate) fn three(operands: &mut Vec<Value>) -> Option<(Value, Value, Value)>
     ensures some { IfSome result
-        (λ abc. operands.old.items ≡ operands.new.items ++ (abc.0 ∷ abc.1.0 ∷ abc.1.1 ∷ [])) }
+        (λ abc. operands.old.items ≡ operands.new.items ++ (abc.0 ∷ abc.1 ∷ abc.2 ∷ [])) }
     ensures none { IfNone result (length operands.old.items < 3) }
 {
     let c = operands.pop()?;

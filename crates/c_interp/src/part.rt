@@ -20,7 +20,7 @@ pub(crate) fn evaluate<'a>(machine: &mut Machine<'a>, e: &'a TExpr) -> Result<()
     ensures { (p : ProgramTree) (n : ℕ)
         → IsStep p n result machine.old machine.new (expr_task_run p n (task.evaluate e.now)) }
 {
-    c_interp_expand::evaluate(e, &machine.frame.slots, &mut machine.tasks)?;
+    c_interp_expand::evaluate(e, &machine.slots, &mut machine.tasks)?;
     Ok(())
 }
 

@@ -9,7 +9,7 @@ ghost use Rattle.c_interp_def.specs.Configurations.{variables_of};
 ghost use Rattle.c_interp_def.specs.declared.task.Flow.TheVariants.{Normal};
 ghost use Rattle.c_interp_def.specs.StmtTasks as stmt;
 ghost use Rattle.c_interp_def.specs.StmtTasks.{stmt_task_run};
-ghost use Rattle.c_interp_layout.specs.Laid.{AreNumbers};
+ghost use Rattle.c_interp_layout.specs.Laid.{AreNumbers, IsLaid};
 ghost use Rattle.c_interp.specs.Steps.{IsStep};
 
 use crate::machine::{Machine, Program};
@@ -22,9 +22,11 @@ use c_typed::{Group, Item, StmtForm, TStmt, Variable};
 
 /// The variables of a function; none where there is no function of this number.
 pub(crate) fn variables<'a>(program: Program<'a>, function: u32) -> &'a [Variable]
+    requires laid { IsLaid program.typed.now program.layouts.now }
     ensures { result.now ≡ variables_of program.entry.typed.now function }
 {
-    match program.typed.functions.get(function as usize) {
+    let typed = program.typed;
+    match typed.functions.get(function as usize) {
         Some(f) => &f.variables,
         None => &[],
     }
@@ -32,10 +34,12 @@ pub(crate) fn variables<'a>(program: Program<'a>, function: u32) -> &'a [Variabl
 
 /// Their numbers among the objects.
 pub(crate) fn numbers<'a>(program: Program<'a>, function: u32) -> &'a [u32]
+    requires laid { IsLaid program.typed.now program.layouts.now }
     ensures { AreNumbers (variables_of program.entry.typed.now function)
         (length (variables_of program.entry.typed.now function)) result.now }
 {
-    match program.layouts.functions.get(function as usize) {
+    let layouts = program.layouts;
+    match layouts.functions.get(function as usize) {
         Some(layout) => &layout.numbers,
         None => &[],
     }
@@ -47,12 +51,13 @@ pub(crate) fn run_items<'a>(
     program: Program<'a>,
     items: &'a [Item],
 ) -> Result<(), Stop>
-    requires { machine.old.flow ≡ Normal }
+    requires laid { IsLaid program.typed.now program.layouts.now }
+    requires normal { machine.old.flow ≡ Normal }
     ensures { (n : ℕ) → IsStep program.entry.typed.now n result machine.old machine.new
         (stmt_task_run program.entry.typed.now n (stmt.run_items (items_of items.now))) }
 {
     let function = machine.frame.function;
-    let count = machine.frame.slots.len();
+    let count = machine.slots.len();
     c_interp_expand::run_items(
         items,
         variables(program, function),

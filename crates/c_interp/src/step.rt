@@ -9,6 +9,7 @@ ghost use Rattle.c_interp_def.specs.declared.task.Flow.TheVariants.{Normal};
 ghost use Rattle.c_interp_def.specs.ExprTasks as task;
 ghost use Rattle.c_interp_def.specs.ExprTasks.{expr_task_run};
 ghost use Rattle.c_interp_def.specs.StmtTasks.{of_stmt, stmt_task_run, handler_run};
+ghost use Rattle.c_interp_layout.specs.Laid.{IsLaid};
 ghost use Rattle.c_interp.specs.Steps.{IsStep, task_from};
 ghost use Rattle.c_interp.specs.Ports.{IsQuiet, IsStepAt};
 
@@ -43,7 +44,8 @@ pub(crate) fn step<'a, I: Source, O: Sink>(
     at_end: &mut bool,
     output: &mut O,
 ) -> Result<(), Stop>
-    requires { at_end.old ≡ true → IsAtEnd (I.left input.old) }
+    requires laid { IsLaid program.typed.now program.layouts.now }
+    requires at_end { at_end.old ≡ true → IsAtEnd (I.left input.old) }
     ensures step { IsStepAt program.entry.typed.now program.entry.bound result machine.old machine.new
         (task_from program.entry.typed.now program.entry.bound (task_of task.entry) (flow_of machine.old.flow))
         (record { held = O.held output.old; left = I.left input.old; closed = at_end.old })
@@ -73,6 +75,7 @@ fn do_expr<'a, I: Source, O: Sink>(
     at_end: &mut bool,
     output: &mut O,
 ) -> Result<(), Stop>
+    requires laid { IsLaid program.typed.now program.layouts.now }
     requires normal { machine.old.flow ≡ Normal }
     requires at_end { at_end.old ≡ true → IsAtEnd (I.left input.old) }
     ensures step { IsStepAt program.entry.typed.now program.entry.bound result machine.old machine.new
@@ -125,6 +128,7 @@ fn do_quiet<'a>(
     program: Program<'a>,
     task: ExprTask<'a>,
 ) -> Result<(), Stop>
+    requires laid { IsLaid program.typed.now program.layouts.now }
     requires normal { machine.old.flow ≡ Normal }
     requires quiet { IsQuiet task.entry }
     ensures { (n : ℕ) → IsStep program.entry.typed.now n result machine.old machine.new
@@ -167,6 +171,7 @@ fn stmt_unless_jump<'a>(
     program: Program<'a>,
     task: StmtTask<'a>,
 ) -> Result<(), Stop>
+    requires laid { IsLaid program.typed.now program.layouts.now }
     ensures { IsStep program.entry.typed.now program.entry.bound result machine.old machine.new
         (task_from program.entry.typed.now program.entry.bound (of_stmt (stmt_task_of task.entry))
         (flow_of machine.old.flow)) }
@@ -182,7 +187,8 @@ fn do_stmt<'a>(
     program: Program<'a>,
     task: StmtTask<'a>,
 ) -> Result<(), Stop>
-    requires { machine.old.flow ≡ Normal }
+    requires laid { IsLaid program.typed.now program.layouts.now }
+    requires normal { machine.old.flow ≡ Normal }
     ensures { IsStep program.entry.typed.now program.entry.bound result machine.old machine.new
         (stmt_task_run program.entry.typed.now program.entry.bound (stmt_task_of task.entry)) }
 {
@@ -212,7 +218,8 @@ fn do_stage<'a>(
     stage: Stage,
     a: &'a TStmt,
 ) -> Result<(), Stop>
-    requires { machine.old.flow ≡ Normal }
+    requires laid { IsLaid program.typed.now program.layouts.now }
+    requires normal { machine.old.flow ≡ Normal }
     ensures { IsStep program.entry.typed.now program.entry.bound result machine.old machine.new
         (stmt_task_run program.entry.typed.now program.entry.bound (on_stmt stage a.now)) }
 {
@@ -231,6 +238,7 @@ fn handle<'a>(
     program: Program<'a>,
     handler: Handler<'a>,
 ) -> Result<(), Stop>
+    requires laid { IsLaid program.typed.now program.layouts.now }
     ensures { IsStep program.entry.typed.now program.entry.bound result machine.old machine.new
         (handler_run program.entry.typed.now program.entry.bound (handler_of handler.entry)
         (flow_of machine.old.flow)) }

@@ -149,8 +149,10 @@ pub(crate) fn again<'a>(machine: &mut Machine<'a>, turns: u64, a: &'a TStmt) -> 
         return Err(Stop::Undefined);
     }
     match machine.flow {
-        Flow::Normal | Flow::Continued => go_on(machine, turns, a),
-        _ => Ok(()),
+        Flow::Normal => go_on(machine, turns, a),
+        Flow::Continued => go_on(machine, turns, a),
+        Flow::Broke => Ok(()),
+        Flow::Returned(_) => Ok(()),
     }
 }
 
@@ -170,6 +172,6 @@ pub(crate) fn end_scope(machine: &mut Machine, count: usize) -> Result<(), Stop>
         → IsStep p n result machine.old machine.new
         (handler_run p n (stmt.end_scope count) (flow_of machine.old.flow)) }
 {
-    machine.frame.slots.truncate(count);
+    machine.slots.truncate(count);
     Ok(())
 }

@@ -10,6 +10,7 @@ ghost use Rattle.c_interp_def.specs.Configurations.{variables_of, object_sizes};
 ghost use Rattle.c_interp_def.specs.declared.task.Flow.TheVariants.{Normal};
 ghost use Rattle.c_interp_def.specs.ExprTasks as task;
 ghost use Rattle.c_interp_def.specs.ExprTasks.{expr_task_run};
+ghost use Rattle.c_interp_layout.specs.Laid.{IsLaid};
 ghost use Rattle.c_interp.specs.Steps.{IsStep, set_run, slot_read, slot_address};
 
 use crate::expression::{compounded, incremented, old_of};
@@ -25,7 +26,8 @@ use val_core::Value;
 /// The address of an object of a call of this function, whose first block has this number; `Bad`
 /// where there is no such object.
 pub(crate) fn address_of<'a>(program: Program<'a>, function: u32, first: u64, number: u32) -> Value
-    requires { first < 2 ^ 63 }
+    requires laid { IsLaid program.typed.now program.layouts.now }
+    requires fit { first < 2 ^ 63 }
     ensures { result
         ≡ address_in first
         (object_sizes program.entry.typed.now (variables_of program.entry.typed.now function))
@@ -36,6 +38,7 @@ pub(crate) fn address_of<'a>(program: Program<'a>, function: u32, first: u64, nu
 
 /// The address of an object of the newest call; `Bad` where there is none of this number.
 pub(crate) fn object_at<'a>(machine: &Machine<'a>, program: Program<'a>, number: u32) -> Value
+    requires laid { IsLaid program.typed.now program.layouts.now }
     ensures { result
         ≡ address_in machine.now.frame.objects.first
         (object_sizes program.entry.typed.now
@@ -55,7 +58,8 @@ pub(crate) fn global_at<'a>(
     program: Program<'a>,
     number: u32,
 ) -> Result<(), Stop>
-    requires { machine.old.flow ≡ Normal }
+    requires laid { IsLaid program.typed.now program.layouts.now }
+    requires normal { machine.old.flow ≡ Normal }
     ensures { (n : ℕ) → IsStep program.entry.typed.now n result machine.old machine.new
         (expr_task_run program.entry.typed.now n (task.global_at number)) }
 {
@@ -68,7 +72,8 @@ pub(crate) fn local_at<'a>(
     program: Program<'a>,
     slot: u32,
 ) -> Result<(), Stop>
-    requires { machine.old.flow ≡ Normal }
+    requires laid { IsLaid program.typed.now program.layouts.now }
+    requires normal { machine.old.flow ≡ Normal }
     ensures { (n : ℕ) → IsStep program.entry.typed.now n result machine.old machine.new
         (expr_task_run program.entry.typed.now n (task.local_at slot)) }
 {
@@ -77,13 +82,14 @@ pub(crate) fn local_at<'a>(
 }
 
 fn slot_address<'a>(machine: &Machine<'a>, program: Program<'a>, slot: u32) -> Option<Value>
+    requires laid { IsLaid program.typed.now program.layouts.now }
     ensures { result
         ≡ slot_address (address_in machine.now.frame.objects.first
         (object_sizes program.entry.typed.now
         (variables_of program.entry.typed.now machine.now.frame.function)))
-        (slice_get (slots_of machine.now.frame.slots.items) slot) }
+        (slice_get (slots_of machine.now.slots.items) slot) }
 {
-    match machine.frame.slots.get(slot as usize) {
+    match machine.slots.get(slot as usize) {
         Some(Slot::Object(number)) => Some(object_at(machine, program, *number)),
         _ => None,
     }
@@ -105,7 +111,7 @@ pub(crate) fn load_slot(machine: &mut Machine, slot: u32) -> Result<(), Stop>
     ensures { (p : ProgramTree) (n : ℕ) (t : TypeTree)
         → IsStep p n result machine.old machine.new (expr_task_run p n (task.load_slot slot t)) }
 {
-    let value = slot_read(&machine.frame.slots, slot);
+    let value = slot_read(&machine.slots, slot);
     give(machine, value)
 }
 
@@ -127,7 +133,7 @@ fn set(machine: &mut Machine, slot: u32, v: Option<Value>, given: Option<Value>)
     let Some(v) = v else {
         return Err(Stop::Undefined);
     };
-    set_slot(&mut machine.frame.slots, slot, v);
+    set_slot(&mut machine.slots, slot, v);
     machine.operands.push(given.unwrap_or(v))?;
     Ok(())
 }

@@ -1,7 +1,6 @@
 use Rattle.std.proofs.Common.{refl}
 use Rattle.std.specs.Prelude.{None}
 use Rattle.c_interp.specs.Steps.{store_run}
-use Rattle.c_interp.proofs.Reached.{held}
 use Rattle.c_interp.proofs.BaseSteps.{stored_step, not_stored_step}
 use Rattle.c_interp.proofs.Steps.{undefined_step}
 use Rattle.c_interp.proofs.operands.store.Goals as goal

@@ -1,7 +1,6 @@
 use Rattle.std.proofs.Common.{refl}
 use Rattle.std.specs.Prelude.{None}
 use Rattle.c_interp.specs.Steps.{write_run}
-use Rattle.c_interp.proofs.Reached.{held}
 use Rattle.c_interp.proofs.BaseSteps.{written_step, not_written_step}
 use Rattle.c_interp.proofs.Steps.{undefined_step}
 use Rattle.c_interp.proofs.operands.write.Goals as goal

@@ -5,9 +5,8 @@ use Rattle.c_interp_expand.specs.TaskViews.{flow_of}
 use Rattle.c_interp_def.specs.StmtTasks as stmt
 use Rattle.c_interp_def.specs.StmtTasks.{handler_run}
 use Rattle.c_interp.specs.Machines.{config_of}
-use Rattle.c_interp.proofs.Reached.{held}
+use Rattle.c_interp.proofs.Ports.{stays_step}
 use Rattle.c_interp.proofs.StmtSteps.{flow_step, switch-stays}
-use Rattle.c_interp.proofs.Streams.{stays_step}
 use Rattle.c_interp.proofs.Steps.{same_step}
 use Rattle.c_interp.proofs.turns.end_switch.Goals as goal
 

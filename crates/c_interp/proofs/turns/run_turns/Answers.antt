@@ -1,7 +1,6 @@
 use Rattle.std.proofs.Common.{◌∙◌, sym}
 use Rattle.c_interp_def.proofs.StmtLaws.{turns-expand}
 use Rattle.c_interp.specs.Machines.{config_of}
-use Rattle.c_interp.proofs.Reached.{held}
 use Rattle.c_interp.proofs.Steps.{undefined_step}
 use Rattle.c_interp.proofs.Statements.{loops, no-turns, turn_put, turn_cut}
 use Rattle.c_interp.proofs.turns.run_turns.Goals as goal

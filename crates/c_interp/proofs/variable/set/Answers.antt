@@ -1,7 +1,6 @@
 use Rattle.std.proofs.Common.{refl}
 use Rattle.std.specs.Prelude.{None}
 use Rattle.c_interp.specs.Steps.{set_run}
-use Rattle.c_interp.proofs.Reached.{held}
 use Rattle.c_interp.proofs.BaseSteps.{assigned_step}
 use Rattle.c_interp.proofs.Steps.{undefined_step}
 use Rattle.c_interp.proofs.variable.set.Goals as goal

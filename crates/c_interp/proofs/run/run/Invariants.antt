@@ -1,6 +1,6 @@
 use Rattle.std.proofs.Common.{◌≡◌, ◌≤◌, false}
 use Rattle.c_interp.proofs.Reached.{IsReached}
-use Rattle.c_interp.proofs.interpret.run.Given as goal
+use Rattle.c_interp.proofs.run.run.Given as goal
 
 abbrev pub invariant-loop-step : goal.invariant-loop-step
 invariant-loop-step g l = record {

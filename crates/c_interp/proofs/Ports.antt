@@ -63,7 +63,8 @@ stopped_at reads writes stop.NoMemory a h = h
 
 pub quiet_at : (p : ProgramTree) (n : ℕ) (r : Result Unit Stop) (old new : Machine) (run : Configuration → Answer Reached) (now : Port) (reads writes : Type 0) →
     (now.closed ≡ true → IsAtEnd now.left) → IsStep p n r old new run → IsStepAt p n r old new run now now reads writes
-quiet_at p n (Ok u) old new run now reads writes at_end step m held =
+quiet_at p n (Ok u) old new run now reads writes at_end step =
+    λ m held.
     let d : IsDone p n old new (λ i. run (config_of old m i)) = step m held in
     record {
       put = d.put;
@@ -85,7 +86,8 @@ quiet_at p n (Err r) old new run now reads writes at_end step =
 -- a step of a task that does the same
 pub at_same : (p : ProgramTree) (n : ℕ) (r : Result Unit Stop) (old new : Machine) (run run' : Configuration → Answer Reached) (first last : Port) (reads writes : Type 0) →
     ((x : Configuration) → run x ≡ run' x) → IsStepAt p n r old new run' first last reads writes → IsStepAt p n r old new run first last reads writes
-at_same p n (Ok u) old new run run' first last reads writes e step m held =
+at_same p n (Ok u) old new run run' first last reads writes e step =
+    λ m held.
     let d : IsDoneAt p n old new (λ i. run' (config_of old m i)) first last = step m held in
     record {
       put = d.put;

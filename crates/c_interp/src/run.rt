@@ -3,6 +3,7 @@
 ghost use Rattle.std.specs.Prelude.{◌≡◌, ◌≤◌, MatchResult, IfOk};
 ghost use Rattle.c_typed.specs.WellTyped.{IsWellTyped};
 ghost use Rattle.cc_io.specs.Faults.{Increased};
+ghost use Rattle.c_interp_layout.specs.Laid.{IsLaid};
 ghost use Rattle.c_interp.specs.Interpreted.{HasEnded, IsPart};
 ghost use Rattle.c_interp.specs.Begun.{HasBegun, stop_of};
 ghost use Rattle.c_interp.specs.declared.stop.Stop.TheVariants as AnyStop;
@@ -62,6 +63,7 @@ pub fn interpret<I: Source, O: Sink>(
 
 // The machine as a program begins.
 fn machine_of<'a>(alloc: Global, program: Program<'a>) -> Result<Machine<'a>, NoMemory>
+    requires laid { IsLaid program.typed.now program.layouts.now }
     requires typed { IsWellTyped program.typed.now }
     requires most { program.bound ≤ 1000000 }
     ensures { IfOk result (HasBegun program.entry.typed.now program.entry.bound) }
@@ -81,8 +83,8 @@ fn machine_of<'a>(alloc: Global, program: Program<'a>) -> Result<Machine<'a>, No
                 count: typed.globals.len() as u64,
             },
             depth: program.bound + 1,
-            slots: Vec::new(alloc),
         },
+        slots: Vec::new(alloc),
         callers: Vec::new(alloc),
         flow: Flow::Normal,
         store,
@@ -97,7 +99,8 @@ fn run<'a, I: Source, O: Sink>(
     input: &mut I,
     output: &mut O,
 ) -> Result<Ending, NoMemory>
-    requires { HasBegun program.typed.now program.bound machine.old }
+    requires laid { IsLaid program.typed.now program.layouts.now }
+    requires begun { HasBegun program.typed.now program.bound machine.old }
     ensures ends { MatchResult result
         (HasEnded program.entry.bound program.entry.typed.now
         (record { held = O.held output.old; left = I.left input.old })
