@@ -39,16 +39,16 @@ not_given p n old new = undefined_step p n old new (give_run None) (λ m i held.
 pub stored_memory : (old : Machine) (s : Store) (width : ℕ) (t : TypeTree) (at v : Value) (d : Bool) → width ≡ access_width t →
     ((calls : List Opened) (m : Memory) → Holds old.store calls m → IsChanged calls (store width at v m) s d) → d ≡ true → (m : Memory) → Holds old.store (calls_in old) m →
     (k : Memory) × (store (access_width t) at v m ≡ Some k) × Holds s (calls_in old) k
-stored_memory old s width t at v d is changes done m holds = by (store width at v m) refl (changes (calls_in old) m holds)
+stored_memory old s width t at v d is changes done m it = by (store width at v m) refl (changes (calls_in old) m it)
   where
     by : (o : Option Memory) → store width at v m ≡ o → IsChanged (calls_in old) o s d → (k : Memory) × (store (access_width t) at v m ≡ Some k) × Holds s (calls_in old) k
     by None e h = absurd (false≢true (sym h ∙ done))
-    by (Some k) e h = (k, (ap (λ w. store w at v m) (sym is) ∙ e, h.1))
+    by (Some k) e h = (k, ap (λ w. store w at v m) (sym is) ∙ e, h.1)
 
 pub not_stored_memory : (old : Machine) (s : Store) (width : ℕ) (t : TypeTree) (at v : Value) (d : Bool) → width ≡ access_width t →
     ((calls : List Opened) (m : Memory) → Holds old.store calls m → IsChanged calls (store width at v m) s d) → d ≡ false → (m : Memory) → Holds old.store (calls_in old) m →
     store (access_width t) at v m ≡ None
-not_stored_memory old s width t at v d is changes done m holds = by (store width at v m) refl (changes (calls_in old) m holds)
+not_stored_memory old s width t at v d is changes done m it = by (store width at v m) refl (changes (calls_in old) m it)
   where
     by : (o : Option Memory) → store width at v m ≡ o → IsChanged (calls_in old) o s d → store (access_width t) at v m ≡ None
     by None e h = ap (λ w. store w at v m) (sym is) ∙ e
@@ -59,8 +59,8 @@ module _ (p : ProgramTree) (n : ℕ) (old : Machine) (s : Store) (width : ℕ) (
   stored_step u flow done =
       changed_step p n u old s (store_run t at (Some v)) flow
       (λ m held.
-      let (k, is_stored, holds) = stored_memory old s width t at v d is changes done m held.store in
-      (k, (holds, λ i. ap (λ o. on_defined o (λ q. reaches normal (with_memory (config_of old m i) q))) is_stored)))
+      let (k, is_stored, it) = stored_memory old s width t at v d is changes done m held.store in
+      (k, it, λ i. ap (λ o. on_defined o (λ q. reaches normal (with_memory (config_of old m i) q))) is_stored))
 
   pub not_stored_step : (new : Machine) → d ≡ false → IsStep p n (Err stop.Undefined) old new (store_run t at (Some v))
   not_stored_step new done =
@@ -70,9 +70,9 @@ module _ (p : ProgramTree) (n : ℕ) (old : Machine) (s : Store) (width : ℕ) (
   pub written_step : (u : Unit) (many : Vec Value Global) (given : Option Value) → old.flow ≡ Normal → d ≡ true → many.items ≡ old.operands.items ++ unwrap_or given v ∷ [] →
       IsStep p n (Ok u) old (with_ops (with_store old s) many) (write_run t at (Some v) given)
   written_step u many given flow done pushed m held =
-      let (k, is_stored, holds) = stored_memory old s width t at v d is changes done m held.store in
+      let (k, is_stored, it) = stored_memory old s width t at v d is changes done m held.store in
       let new : Machine = with_ops (with_store old s) many in
-      let held' : IsHeld p new k = record { store = holds; counts = held.counts } in
+      let held' : IsHeld p new k = record { store = it; counts = held.counts } in
       done_at_once p n old new (λ i. write_run t at (Some v) given (config_of old m i)) k refl held'
       (λ i.
       let x : Configuration = config_of old m i in

@@ -136,12 +136,10 @@ end_call_done p n r old new caller few s value popped is closes step =
     subst P counts.0 (closes (opened_by caller ∷ reverse (map opened_by few.items)) m
     (let Q : List Opened → Type 0 = λ os. Holds old.store (opened_in old.frame ∷ os) m in subst Q (waits opened_by old.callers.items few.items caller popped) held.store)) in (
       k,
-      (
-        record { store = holds; counts = counts.1 },
-        λ i.
-            ap (λ fs. returned_to fs (reverse old.operands.items) (record { value = value_at_end (old.frame.function == p.main) (flow_of old.flow); memory = k; input = i })) (waits frame_of old.callers.items few.items caller popped)
-            ∙ ap (λ v. give_run (Some v) (config_of (back_in old caller few s) k i)) (sym is),
-      ),
+      record { store = holds; counts = counts.1 },
+      λ i.
+          ap (λ fs. returned_to fs (reverse old.operands.items) (record { value = value_at_end (old.frame.function == p.main) (flow_of old.flow); memory = k; input = i })) (waits frame_of old.callers.items few.items caller popped)
+          ∙ ap (λ v. give_run (Some v) (config_of (back_in old caller few s) k i)) (sym is),
     ))
     step
 

@@ -42,7 +42,7 @@ sizes-laid p l f laid = sizes-by p l f (slice_get p.functions f) laid refl
 
 numbers-by : (p : ProgramTree) (l : Layouts) (f : ℕ) (o : Option FunctionTree) (y : Layout) → IsLaid p l → slice_get p.functions f ≡ o → slice_get l.functions.items f ≡ Some y →
     AreNumbers (variables_in o) (length (variables_in o)) y.numbers.items
-numbers-by p l f None y laid e there k lt = absurd (omega arith)
+numbers-by p l f None y laid e there = λ k lt. absurd (omega arith)
 numbers-by p l f (Some fn) y laid e there =
     let (z, is_z, is) = layout_of p l f fn laid e in
     let same : z ≡ y = cc (is_z, there) in
@@ -55,7 +55,7 @@ numbers_laid p l f y laid there = numbers-by p l f (slice_get p.functions f) y l
 
 none-by : (p : ProgramTree) (l : Layouts) (f : ℕ) (o : Option FunctionTree) → IsLaid p l → slice_get p.functions f ≡ o → slice_get l.functions.items f ≡ None →
     AreNumbers (variables_in o) (length (variables_in o)) []
-none-by p l f None laid e there k lt = absurd (omega arith)
+none-by p l f None laid e there = λ k lt. absurd (omega arith)
 none-by p l f (Some fn) laid e there = let (z, is_z, is) = layout_of p l f fn laid e in absurd cc
 
 pub numbers_none : (p : ProgramTree) (l : Layouts) (f : ℕ) → IsLaid p l → slice_get l.functions.items f ≡ None → AreNumbers (variables_of p f) (length (variables_of p f)) []

@@ -138,17 +138,15 @@ some-run : (p : ProgramTree) (n : ℕ) (first : Port) (m : Machine) (now last : 
     heard n p (r.bytes ++ known now.left) ≡ heard_with (output r.did) (known now.left) e → IsSomeRun n p e (streams first) (streams last)
 some-run p n first m now last r e same is = (
   r.bytes ++ known now.left,
-  (
-    is-input first.left now.left r.bytes r.left,
-    record {
-      ending = ap (λ h. h.ending) is;
-      output = same.held ∙ r.held ∙ ap (λ h. append first.held h.output) (sym is);
-      taken = r.bytes;
-      rest = r.left ∙ ap (prepend r.bytes) (sym same.left);
-      unread = let P : Option (List ℕ) → Type 0 = λ l. IsLeft l ((heard n p (r.bytes ++ known now.left)).rest) in
-          subst P (sym same.left) (let Q : List ℕ → Type 0 = IsLeft now.left in subst Q (sym (ap (λ h. h.rest) is)) (is-known now.left));
-    },
-  ),
+  is-input first.left now.left r.bytes r.left,
+  record {
+    ending = ap (λ h. h.ending) is;
+    output = same.held ∙ r.held ∙ ap (λ h. append first.held h.output) (sym is);
+    taken = r.bytes;
+    rest = r.left ∙ ap (prepend r.bytes) (sym same.left);
+    unread = let P : Option (List ℕ) → Type 0 = λ l. IsLeft l ((heard n p (r.bytes ++ known now.left)).rest) in
+        subst P (sym same.left) (let Q : List ℕ → Type 0 = IsLeft now.left in subst Q (sym (ap (λ h. h.rest) is)) (is-known now.left));
+  },
 )
 
 -- the run was given up
@@ -157,16 +155,14 @@ part p n first m now last r same =
     let input : List ℕ = r.bytes ++ known now.left in
     let more : Answer Reached = tasks_run p n (tasks_of m.tasks.items) (reached_of m r.memory (known now.left)) in (
       input,
-      (
-        is-input first.left now.left r.bytes r.left,
-        record {
-          written = length (output r.did);
-          output = same.held ∙ r.held
-              ∙ ap (append first.held) (sym (ap (λ h. take (length (output r.did)) h.output) (heard-to p n first m now r) ∙ written-first input r.did more));
-          taken = r.bytes;
-          rest = r.left ∙ ap (prepend r.bytes) (sym same.left);
-        },
-      ),
+      is-input first.left now.left r.bytes r.left,
+      record {
+        written = length (output r.did);
+        output = same.held ∙ r.held
+            ∙ ap (append first.held) (sym (ap (λ h. take (length (output r.did)) h.output) (heard-to p n first m now r) ∙ written-first input r.did more));
+        taken = r.bytes;
+        rest = r.left ∙ ap (prepend r.bytes) (sym same.left);
+      },
     )
 
 left-itself : (now : Port) → AreLeft now now

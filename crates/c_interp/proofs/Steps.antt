@@ -11,7 +11,7 @@ use Rattle.c_mean.specs.Run.{heard_as}
 use Rattle.c_interp_store.specs.declared.store.Store.{Store}
 use Rattle.c_interp_store.specs.Holding.{Opened, Holds}
 use Rattle.c_mean.specs.Statements.{normal}
-use Rattle.c_interp_def.specs.Configurations.{Configuration, Reached, reaches, with_operands, on_operands, on_three}
+use Rattle.c_interp_def.specs.Configurations.{Configuration, Reached, reaches, with_operands}
 use Rattle.c_interp_def.specs.Laws.{normally}
 use Rattle.c_interp_def.specs.declared.task.Task.{Task as Left}
 use Rattle.c_interp_def.specs.StmtTasks.{Task, tasks_run}
@@ -71,9 +71,10 @@ undefined_step p n old new run e m held i = end-undefined (run (config_of old m 
 -- a step of a task that does the same
 pub same_step : (p : ProgramTree) (n : ℕ) (r : Result Unit Stop) (old new : Machine) (run run' : Configuration → Answer Reached) →
     ((m : Memory) (i : List ℕ) → IsHeld p old m → run (config_of old m i) ≡ run' (config_of old m i)) → IsStep p n r old new run' → IsStep p n r old new run
-same_step p n (Ok u) old new run run' e step m held =
+same_step p n (Ok u) old new run run' e step =
+    λ m held.
     done-same p n old new (λ i. run (config_of old m i)) (λ i. run' (config_of old m i)) (λ i. e m i held) (step m held)
-same_step p n (Err s) old new run run' e step m held = λ i. stopped-same s (run (config_of old m i)) (run' (config_of old m i)) (e m i held) (step m held i)
+same_step p n (Err s) old new run run' e step = λ m held i. stopped-same s (run (config_of old m i)) (run' (config_of old m i)) (e m i held) (step m held i)
 
 -- the blocks of the calls of a machine, of which the newest stands first
 abbrev pub calls_in : Machine → List Opened
@@ -102,7 +103,8 @@ pub taken : (p : ProgramTree) (n : ℕ) (r : Result Unit Stop) (old new : Machin
     reverse old.operands.items ≡ vs ++ reverse few.items →
     ((m : Memory) (i : List ℕ) → IsHeld p old m → run (with_operands (config_of old m i) (vs ++ reverse few.items)) ≡ run' (config_of (with_ops old few) m i)) →
     IsStep p n r (with_ops old few) new run' → IsStep p n r old new run
-taken p n (Ok u) old new few vs run run' e does step m held =
+taken p n (Ok u) old new few vs run run' e does step =
+    λ m held.
     let held' : IsHeld p (with_ops old few) m = record { store = held.store; counts = held.counts } in
     let d : IsDone p n (with_ops old few) new (λ i. run' (config_of (with_ops old few) m i)) = step m held' in
     record {
@@ -115,8 +117,8 @@ taken p n (Ok u) old new few vs run run' e does step m held =
           ∙ ap (λ c. heard_as j (before o (then_on c rest))) (does m i held)
           ∙ d.same i rest j o;
     }
-taken p n (Err s) old new few vs run run' e does step m held =
-    λ i.
+taken p n (Err s) old new few vs run run' e does step =
+    λ m held i.
     let held' : IsHeld p (with_ops old few) m = record { store = held.store; counts = held.counts } in
     stopped-same s (run (config_of old m i)) (run' (config_of (with_ops old few) m i))
     (ap (λ xs. run (with_operands (config_of old m i) xs)) e ∙ does m i held) (step m held' i)
@@ -133,24 +135,29 @@ none_taken p n old new run h e =
     undefined_step p n old new run
     (λ m i held. ap (λ xs. run (with_operands (config_of old m i) (reverse xs))) (short-one old.operands.items (omega (arith, h, old.operands.ok.0))) ∙ e (config_of old m i))
 
-none_of_two : (vs : List Value) → length vs < 2 → (next : Value → Value → Configuration → Answer Reached) (x : Configuration) → on_operands (with_operands x (reverse vs)) next ≡ Undefined []
-none_of_two [] h next x = refl
-none_of_two (v ∷ []) h next x = refl
-none_of_two (v ∷ w ∷ vs) h next x = absurd (omega arith)
+none_of_two : (vs : List Value) → length vs < 2 → (run : Configuration → Answer Reached) (x : Configuration) → run (with_operands x []) ≡ Undefined [] →
+    ((v : Value) → run (with_operands x (v ∷ [])) ≡ Undefined []) → run (with_operands x (reverse vs)) ≡ Undefined []
+none_of_two [] h run x e f = e
+none_of_two (v ∷ []) h run x e f = f v
+none_of_two (v ∷ w ∷ vs) h run x e f = absurd (omega arith)
 
-none_of_three : (vs : List Value) → length vs < 3 → (next : Value → Value → Value → Configuration → Answer Reached) (x : Configuration) → on_three (with_operands x (reverse vs)) next ≡ Undefined []
-none_of_three [] h next x = refl
-none_of_three (v ∷ []) h next x = refl
-none_of_three (v ∷ w ∷ []) h next x = refl
-none_of_three (v ∷ w ∷ u ∷ vs) h next x = absurd (omega arith)
+none_of_three : (vs : List Value) → length vs < 3 → (run : Configuration → Answer Reached) (x : Configuration) → run (with_operands x []) ≡ Undefined [] →
+    ((v : Value) → run (with_operands x (v ∷ [])) ≡ Undefined []) → ((v w : Value) → run (with_operands x (v ∷ w ∷ [])) ≡ Undefined []) → run (with_operands x (reverse vs)) ≡ Undefined []
+none_of_three [] h run x e f g = e
+none_of_three (v ∷ []) h run x e f g = f v
+none_of_three (v ∷ w ∷ []) h run x e f g = g w v
+none_of_three (v ∷ w ∷ u ∷ vs) h run x e f g = absurd (omega arith)
 
-pub two_not_taken : (p : ProgramTree) (n : ℕ) (old new : Machine) (next : Value → Value → Configuration → Answer Reached) → length old.operands.items < 2 →
-    IsStep p n (Err stop.Undefined) old new (λ x. on_operands x next)
-two_not_taken p n old new next h = undefined_step p n old new (λ x. on_operands x next) (λ m i held. none_of_two old.operands.items h next (config_of old m i))
+pub two_not_taken : (p : ProgramTree) (n : ℕ) (old new : Machine) (run : Configuration → Answer Reached) → length old.operands.items < 2 →
+    ((x : Configuration) → run (with_operands x []) ≡ Undefined []) → ((x : Configuration) (v : Value) → run (with_operands x (v ∷ [])) ≡ Undefined []) → IsStep p n (Err stop.Undefined) old new run
+two_not_taken p n old new run h e f = undefined_step p n old new run (λ m i held. none_of_two old.operands.items h run (config_of old m i) (e (config_of old m i)) (f (config_of old m i)))
 
-pub three_not_taken : (p : ProgramTree) (n : ℕ) (old new : Machine) (next : Value → Value → Value → Configuration → Answer Reached) → length old.operands.items < 3 →
-    IsStep p n (Err stop.Undefined) old new (λ x. on_three x next)
-three_not_taken p n old new next h = undefined_step p n old new (λ x. on_three x next) (λ m i held. none_of_three old.operands.items h next (config_of old m i))
+pub three_not_taken : (p : ProgramTree) (n : ℕ) (old new : Machine) (run : Configuration → Answer Reached) → length old.operands.items < 3 →
+    ((x : Configuration) → run (with_operands x []) ≡ Undefined []) → ((x : Configuration) (v : Value) → run (with_operands x (v ∷ [])) ≡ Undefined []) →
+    ((x : Configuration) (v w : Value) → run (with_operands x (v ∷ w ∷ [])) ≡ Undefined []) → IsStep p n (Err stop.Undefined) old new run
+three_not_taken p n old new run h e f g =
+    undefined_step p n old new run
+    (λ m i held. none_of_three old.operands.items h run (config_of old m i) (e (config_of old m i)) (f (config_of old m i)) (g (config_of old m i)))
 
 -- ---- other changes before a step
 
@@ -158,7 +165,8 @@ three_not_taken p n old new next h = undefined_step p n old new (λ x. on_three 
 pub moved : (p : ProgramTree) (n : ℕ) (r : Result Unit Stop) (old mid new : Machine) (run run' : Configuration → Answer Reached) → mid.tasks ≡ old.tasks →
     ((m : Memory) → IsHeld p old m → (k : Memory) × IsHeld p mid k × ((i : List ℕ) → run (config_of old m i) ≡ run' (config_of mid k i))) →
     IsStep p n r mid new run' → IsStep p n r old new run
-moved p n (Ok u) old mid new run run' tasks at step m held =
+moved p n (Ok u) old mid new run run' tasks at step =
+    λ m held.
     let (k, held', does) = at m held in
     let d : IsDone p n mid new (λ i. run' (config_of mid k i)) = step k held' in
     record {
@@ -168,8 +176,8 @@ moved p n (Ok u) old mid new run run' tasks at step m held =
       held = d.held;
       same = λ i rest j o. ap (λ c. heard_as j (before o (then_on c rest))) (does i) ∙ d.same i rest j o;
     }
-moved p n (Err s) old mid new run run' tasks at step m held =
-    λ i.
+moved p n (Err s) old mid new run run' tasks at step =
+    λ m held i.
     let (k, held', does) = at m held in
     stopped-same s (run (config_of old m i)) (run' (config_of mid k i)) (does i) (step k held' i)
 

@@ -217,11 +217,9 @@ cleared_step p n u old s k at flow is clears =
     by m None e h = absurd (false≢true (sym h))
     by m (Some j) e h = (
       j,
-      (
-        h.1,
-        λ i.
-            ap (λ o. on_defined o (λ q. goes_on_at (config_of old m i) (state.with_memory (state_of (config_of old m i)) q))) (zeros-are object m ∙ ap (λ a. cleared_at a m) (sym is) ∙ e),
-      ),
+      h.1,
+      λ i.
+          ap (λ o. on_defined o (λ q. goes_on_at (config_of old m i) (state.with_memory (state_of (config_of old m i)) q))) (zeros-are object m ∙ ap (λ a. cleared_at a m) (sym is) ∙ e),
     )
 
 pub not_cleared_step : (p : ProgramTree) (n : ℕ) (old new : Machine) (s : Store) (k : ℕ) (at : Value) →
@@ -296,11 +294,9 @@ characters_step p n (Ok u) old s k o cs object flow is stores =
     by m None e h = absurd h
     by m (Some j) e h = (
       j,
-      (
-        h,
-        λ i.
-            ap (λ q. on_defined q (λ z. goes_on_at (config_of old m i) (state.with_memory (state_of (config_of old m i)) z))) (ap (λ a. characters_stored a o cs m) (sym is) ∙ e),
-      ),
+      h,
+      λ i.
+          ap (λ q. on_defined q (λ z. goes_on_at (config_of old m i) (state.with_memory (state_of (config_of old m i)) z))) (ap (λ a. characters_stored a o cs m) (sym is) ∙ e),
     )
 characters_step p n (Err stop.Undefined) old s k o cs object flow is stores =
     undefined_step p n old (with_store old s) (stmt_task_run p n (stmt.begin_characters k o cs))

@@ -18,8 +18,8 @@ abbrev pub IsLeft : Option (List ℕ) → List ℕ → Type 0
 IsLeft left bytes = IfSome left (λ known. known ≡ bytes)
 
 -- The run was heard to its end. Bytes were taken from the front of the input alone.
-pub record IsHeard (h : Heard) (ending : run.Ending) (before after : Streams) : Type 0 where
-  pub ending : h.ending ≡ ending
+pub record IsHeard (h : Heard) (e : run.Ending) (before after : Streams) : Type 0 where
+  pub ending : h.ending ≡ e
   pub output : after.held ≡ append before.held h.output
   pub taken : List ℕ
   pub rest : before.left ≡ prepend taken after.left

@@ -13,7 +13,7 @@ ghost use Rattle.c_interp_def.specs.ExprTasks.{expr_task_run};
 ghost use Rattle.c_interp.specs.Steps.{IsStep, tested_run, bit_of, loaded_value, converted_value, old_of};
 
 use crate::machine::Machine;
-use crate::operands::{give, three, two, write};
+use crate::operands::{give, give_value, three, two, write};
 use crate::push::{choose, put2};
 use crate::stop::Stop;
 use c_interp_def::{ExprTask, Task};
@@ -27,12 +27,12 @@ use c_typed::{BinaryOp, CompoundOp, IncDec, TExpr, UnaryOp};
 use val_core::Value;
 
 /// A value becomes an operand.
-pub(crate) fn give_value(machine: &mut Machine, v: Value) -> Result<(), Stop>
+pub(crate) fn give_it(machine: &mut Machine, v: Value) -> Result<(), Stop>
     requires { machine.old.flow ≡ Normal }
     ensures { (p : ProgramTree) (n : ℕ)
         → IsStep p n result machine.old machine.new (expr_task_run p n (task.give v)) }
 {
-    give(machine, Some(v))
+    give_value(machine, v)
 }
 
 /// The newest operand, an address, becomes that of a member of the object there.

@@ -1,6 +1,6 @@
 //! Operands that are taken, and values that become operands.
 
-ghost use Rattle.std.specs.Prelude.{◌≡◌, ◌∷◌, ◌++◌, ◌<◌, [], ℕ, IfSome, IfNone, length};
+ghost use Rattle.std.specs.Prelude.{◌≡◌, ◌∷◌, ◌++◌, ◌<◌, [], ℕ, Some, IfSome, IfNone, length};
 ghost use Rattle.c_typed.specs.Typed.{ProgramTree};
 ghost use Rattle.c_interp_def.specs.declared.task.Flow.TheVariants.{Normal};
 ghost use Rattle.c_interp.specs.Steps.{IsStep, number, give_run, write_run, store_run};
@@ -44,6 +44,16 @@ pub(crate) fn number(v: Value) -> Option<u32>
     }
 }
 
+/// The value becomes an operand.
+pub(crate) fn give_value(machine: &mut Machine, v: Value) -> Result<(), Stop>
+    requires { machine.old.flow ≡ Normal }
+    ensures { (p : ProgramTree) (n : ℕ)
+        → IsStep p n result machine.old machine.new (give_run (Some v)) }
+{
+    machine.operands.push(v)?;
+    Ok(())
+}
+
 /// The value becomes an operand, where there is one.
 pub(crate) fn give(machine: &mut Machine, v: Option<Value>) -> Result<(), Stop>
     requires { machine.old.flow ≡ Normal }
@@ -51,11 +61,20 @@ pub(crate) fn give(machine: &mut Machine, v: Option<Value>) -> Result<(), Stop>
         → IsStep p n result machine.old machine.new (give_run v) }
 {
     match v {
-        Some(v) => {
-            machine.operands.push(v)?;
-            Ok(())
-        }
+        Some(v) => give_value(machine, v),
         None => Err(Stop::Undefined),
+    }
+}
+
+fn store_value(machine: &mut Machine, t: &CType, at: Value, v: Value) -> Result<(), Stop>
+    requires { machine.old.flow ≡ Normal }
+    ensures { (p : ProgramTree) (n : ℕ)
+        → IsStep p n result machine.old machine.new (store_run t.now at (Some v)) }
+{
+    if machine.store.store(access_width(t), at, v) {
+        Ok(())
+    } else {
+        Err(Stop::Undefined)
     }
 }
 
@@ -70,10 +89,25 @@ pub(crate) fn store(
     ensures { (p : ProgramTree) (n : ℕ)
         → IsStep p n result machine.old machine.new (store_run t.now at v) }
 {
-    let Some(v) = v else {
-        return Err(Stop::Undefined);
-    };
+    match v {
+        Some(v) => store_value(machine, t, at, v),
+        None => Err(Stop::Undefined),
+    }
+}
+
+fn write_value(
+    machine: &mut Machine,
+    t: &CType,
+    at: Value,
+    v: Value,
+    given: Option<Value>,
+) -> Result<(), Stop>
+    requires { machine.old.flow ≡ Normal }
+    ensures { (p : ProgramTree) (n : ℕ)
+        → IsStep p n result machine.old machine.new (write_run t.now at (Some v) given) }
+{
     if machine.store.store(access_width(t), at, v) {
+        machine.operands.push(given.unwrap_or(v))?;
         Ok(())
     } else {
         Err(Stop::Undefined)
@@ -93,12 +127,8 @@ pub(crate) fn write(
     ensures { (p : ProgramTree) (n : ℕ)
         → IsStep p n result machine.old machine.new (write_run t.now at v given) }
 {
-    let Some(v) = v else {
-        return Err(Stop::Undefined);
-    };
-    if !machine.store.store(access_width(t), at, v) {
-        return Err(Stop::Undefined);
+    match v {
+        Some(v) => write_value(machine, t, at, v, given),
+        None => Err(Stop::Undefined),
     }
-    machine.operands.push(given.unwrap_or(v))?;
-    Ok(())
 }

@@ -18,7 +18,7 @@ use crate::begin::{
 };
 use crate::calls::{call, end_call};
 use crate::expression::{
-    and_also, apply_binary, apply_unary, choose_by, compound_at, discard, give_value, load_at,
+    and_also, apply_binary, apply_unary, choose_by, compound_at, discard, give_it, load_at,
     load_from, member_at, or_else, step_at, store_at, test, use_it,
 };
 use crate::machine::{Machine, Program};
@@ -139,7 +139,7 @@ fn do_quiet<'a>(
         ExprTask::Locate(q) => locate(machine, q),
         ExprTask::DropEach(es) => drop_each(machine, es),
         ExprTask::PassEach(es) => pass_each(machine, es),
-        ExprTask::Give(v) => give_value(machine, v),
+        ExprTask::Give(v) => give_it(machine, v),
         ExprTask::LocalAt(k) => local_at(machine, program, k),
         ExprTask::GlobalAt(k) => global_at(machine, program, k),
         ExprTask::MemberAt(offset) => member_at(machine, offset),

@@ -1,6 +1,6 @@
 //! Tasks of variables that hold a value, and addresses of objects.
 
-ghost use Rattle.std.specs.Prelude.{◌≡◌, ◌<◌, ◌^◌, ℕ, slice_get, slice_set};
+ghost use Rattle.std.specs.Prelude.{◌≡◌, ◌<◌, ◌^◌, ℕ, Some, slice_get, slice_set};
 ghost use Rattle.val_core.specs.Objects.{address_in};
 ghost use Rattle.c_type.specs.Trees.{TypeTree};
 ghost use Rattle.c_typed.specs.Typed.{ProgramTree};
@@ -123,6 +123,16 @@ fn set_slot(slots: &mut Vec<Slot>, slot: u32, value: Value)
     }
 }
 
+fn set_value(machine: &mut Machine, slot: u32, v: Value, given: Option<Value>) -> Result<(), Stop>
+    requires { machine.old.flow ≡ Normal }
+    ensures { (p : ProgramTree) (n : ℕ)
+        → IsStep p n result machine.old machine.new (set_run slot (Some v) given) }
+{
+    set_slot(&mut machine.slots, slot, v);
+    machine.operands.push(given.unwrap_or(v))?;
+    Ok(())
+}
+
 // A variable takes a value, where there is one, and that becomes an operand, or the other value
 // that is given.
 fn set(machine: &mut Machine, slot: u32, v: Option<Value>, given: Option<Value>) -> Result<(), Stop>
@@ -130,12 +140,10 @@ fn set(machine: &mut Machine, slot: u32, v: Option<Value>, given: Option<Value>)
     ensures { (p : ProgramTree) (n : ℕ)
         → IsStep p n result machine.old machine.new (set_run slot v given) }
 {
-    let Some(v) = v else {
-        return Err(Stop::Undefined);
-    };
-    set_slot(&mut machine.slots, slot, v);
-    machine.operands.push(given.unwrap_or(v))?;
-    Ok(())
+    match v {
+        Some(v) => set_value(machine, slot, v, given),
+        None => Err(Stop::Undefined),
+    }
 }
 
 /// A value is assigned to a variable.

@@ -1,15 +1,12 @@
-use Rattle.std.proofs.Common.{refl}
-use Rattle.std.specs.Prelude.{None}
+use Rattle.std.proofs.Common.{ap}
+use Rattle.std.specs.Prelude.{Some}
+use Rattle.c_interp.specs.Machines.{config_of}
 use Rattle.c_interp.specs.Steps.{store_run}
-use Rattle.c_interp.proofs.BaseSteps.{stored_step, not_stored_step}
-use Rattle.c_interp.proofs.Steps.{undefined_step}
+use Rattle.c_interp.proofs.Steps.{undefined_step, same_step}
 use Rattle.c_interp.proofs.operands.store.Goals as goal
 
-pub returns-in_default : goal.returns-in_default
-returns-in_default c = λ p n. undefined_step p n c.args.machine.now _ (store_run c.args.t.now c.args.at None) (λ m i held. refl)
+pub returns-in-Some : goal.returns-in-Some
+returns-in-Some c = λ p n. same_step p n c.store_value.result c.args.machine.now c.store_value.new.machine (store_run c.args.t.now c.args.at c.args.v) (store_run c.args.t.now c.args.at (Some c.in-Some.v)) (λ m i held. ap (λ o. store_run c.args.t.now c.args.at o (config_of c.args.machine.now m i)) c.in-Some.is) (c.store_value.ensures p n)
 
-pub returns-then-store : goal.returns-then-store
-returns-then-store c = λ p n. stored_step p n c.args.machine.now c.store.new.self c.access_width.result c.args.t.now c.args.at c.in-Some.v c.store.result c.access_width.ensures c.store.ensures _ c.requires c.if-store.true
-
-pub returns-else-store : goal.returns-else-store
-returns-else-store c = λ p n. not_stored_step p n c.args.machine.now c.store.new.self c.access_width.result c.args.t.now c.args.at c.in-Some.v c.store.result c.access_width.ensures c.store.ensures _ c.if-store.false
+pub returns-in-None : goal.returns-in-None
+returns-in-None c = λ p n. undefined_step p n c.args.machine.now c.args.machine.now (store_run c.args.t.now c.args.at c.args.v) (λ m i held. ap (λ o. store_run c.args.t.now c.args.at o (config_of c.args.machine.now m i)) c.in-None.is)

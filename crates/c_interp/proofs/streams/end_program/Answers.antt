@@ -9,10 +9,10 @@ use Rattle.c_interp.proofs.Steps.{none_taken}
 use Rattle.c_interp.proofs.streams.end_program.Goals as goal
 
 pub returns-in_default : goal.returns-in_default
-returns-in_default c = λ p n. none_taken p n c.args.machine.now _ (expr_task_run p n task.end_program) c.in_default.ensures.cases.0 (λ x. refl)
+returns-in_default c = λ p n. none_taken p n c.args.machine.now c.args.machine.now (expr_task_run p n task.end_program) c.in_default.ensures.cases.0 (λ x. refl)
 
 pub returns-in_default-number : goal.returns-in_default-number
-returns-in_default-number c = λ p n. no_operand p n c.args.machine.now _ c.pop.new.self c.in-Some.v (number c.in-Some.v) (expr_task_run p n task.end_program) (λ x w. Exited [] (w % 256)) c.in-Some.ensures.items
+returns-in_default-number c = λ p n. no_operand p n c.args.machine.now c.args.machine.now c.pop.new.self c.in-Some.v (number c.in-Some.v) (expr_task_run p n task.end_program) (λ x w. Exited [] (w % 256)) c.in-Some.ensures.items
     (sym c.in_default-number.ensures) (λ x vs. on-number c.in-Some.v (λ w. Exited [] (w % 256)))
 
 pub returns : goal.returns

@@ -11,7 +11,7 @@ use Rattle.c_interp.proofs.Statements.{loops, not-again, leaves-broke, leaves-re
 use Rattle.c_interp.proofs.turns.again.Goals as goal
 
 pub returns-then-is_loop : goal.returns-then-is_loop
-returns-then-is_loop c = λ p n. undefined_step p n c.args.machine.now _ _ (λ m i held. not-again p n c.args.turns c.args.a.now (flow_of c.args.machine.now.flow) (config_of c.args.machine.now m i) (sym c.is_loop.ensures ∙ c.if-is_loop.false))
+returns-then-is_loop c = λ p n. undefined_step p n c.args.machine.now c.args.machine.now _ (λ m i held. not-again p n c.args.turns c.args.a.now (flow_of c.args.machine.now.flow) (config_of c.args.machine.now m i) (sym c.is_loop.ensures ∙ c.if-is_loop.false))
 
 pub returns-in-Normal : goal.returns-in-Normal
 returns-in-Normal c = λ p n. same_step p n c.go_on.result c.args.machine.now c.go_on.new.machine _ _
