@@ -1,5 +1,5 @@
 -- A call that begins, and one that ends.
-use Rattle.std.proofs.Common.{Vec, Global, ◌≡◌, ℕ, suc, ◌-◌, ◌==◌, List, [], ◌∷◌, ◌++◌, length, map, drop, reverse, refl, sym, ap, ◌∙◌, subst}
+use Rattle.std.proofs.Common.{Vec, Global, ◌≡◌, ℕ, suc, ◌-◌, ◌==◌, List, [], ◌∷◌, ◌++◌, length, map, drop, reverse, vec_len, arith, refl, sym, ap, ◌∙◌, subst}
 use Rattle.std.specs.Prelude.{Option, None, Some, slice_get, Result, Ok, Err}
 use Rattle.std.proofs.lemmas.List.{map-append, reverse-append}
 use Rattle.val_core.specs.declared.values.Value.{Value}
@@ -143,9 +143,14 @@ end_call_done p n r old new caller few s value popped is closes step =
     ))
     step
 
+no-items : (fs : List Active) → length fs ≡ 0 → fs ≡ []
+no-items [] h = refl
+no-items (f ∷ fs) h = absurd (omega arith)
+
 -- no caller waits
-pub end_call_of_none : (p : ProgramTree) (n : ℕ) (old new : Machine) → old.callers.items ≡ [] → IsStep p n (Err stop.Undefined) old new (handler_run p n end_call (flow_of old.flow))
-end_call_of_none p n old new e =
+pub end_call_of_none : (p : ProgramTree) (n : ℕ) (old new : Machine) → vec_len old.callers ≡ 0 → IsStep p n (Err stop.Undefined) old new (handler_run p n end_call (flow_of old.flow))
+end_call_of_none p n old new none =
+    let e : old.callers.items ≡ [] = no-items old.callers.items (omega (arith, none, old.callers.ok.0)) in
     undefined_step p n old new (handler_run p n end_call (flow_of old.flow))
     (λ m i held. ap (λ fs. returned_to (reverse (map frame_of fs)) (reverse old.operands.items)
     (record { value = value_at_end (old.frame.function == p.main) (flow_of old.flow); memory = closed old.frame.objects.first (length (objects_of p.structs (variables_of p old.frame.function))) m; input = i })) e)

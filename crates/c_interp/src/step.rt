@@ -130,7 +130,7 @@ fn do_quiet<'a>(
 ) -> Result<(), Stop>
     requires laid { IsLaid program.typed.now program.layouts.now }
     requires normal { machine.old.flow ≡ Normal }
-    requires quiet { IsQuiet task.entry }
+    requires quiet { IsQuiet task }
     ensures { (n : ℕ) → IsStep program.entry.typed.now n result machine.old machine.new
         (expr_task_run program.entry.typed.now n (expr_task_of task.entry)) }
 {

@@ -1,3 +1,4 @@
+-- The characters so far are stored.
 use Rattle.std.proofs.Common.{◌≡◌, List, drop}
 use Rattle.val_core.specs.Memory.{Memory}
 use Rattle.c_mean.specs.Statements.{characters_stored}

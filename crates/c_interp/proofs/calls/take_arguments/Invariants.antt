@@ -1,3 +1,4 @@
+-- The parameters so far are in scope, and those that are objects are stored.
 use Rattle.std.proofs.Common.{◌≡◌, ◌≤◌, ◌++◌, List, drop}
 use Rattle.val_core.specs.Memory.{Memory}
 use Rattle.val_core.specs.Objects.{address_in}

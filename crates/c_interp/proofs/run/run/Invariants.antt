@@ -1,3 +1,4 @@
+-- What holds between two tasks of a run: where it stands, and that no count of faults has fallen.
 use Rattle.std.proofs.Common.{◌≡◌, ◌≤◌, false}
 use Rattle.c_interp.proofs.Reached.{IsReached}
 use Rattle.c_interp.proofs.run.run.Given as goal

@@ -1,3 +1,4 @@
+-- No group before this one has the label.
 use Rattle.std.proofs.Common.{◌≡◌, drop}
 use Rattle.c_typed.specs.StmtViews.{groups_of}
 use Rattle.c_mean.specs.Statements.{from_case}
