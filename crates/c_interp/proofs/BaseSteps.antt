@@ -16,11 +16,12 @@ use Rattle.c_interp_def.specs.Configurations.{Configuration, Reached, reaches, w
 use Rattle.c_interp_def.specs.declared.task.Slot.{Slot}
 use Rattle.c_interp_def.specs.declared.task.Flow.TheVariants.{Normal}
 use Rattle.c_interp_expand.specs.TaskViews.{slots_of, flow_of}
+use Rattle.c_interp.specs.declared.stop.Stop.{Stop}
 use Rattle.c_interp.specs.declared.stop.Stop.TheVariants as stop
 use Rattle.c_interp.specs.declared.machine.Machine.{Machine}
 use Rattle.c_interp.specs.Machines.{config_of, IsHeld}
 use Rattle.c_interp.specs.Steps.{IsStep, give_run, store_run, write_run, set_run, with_memory, with_frame_slots}
-use Rattle.c_interp.proofs.Steps.{with_ops, with_store, calls_in, newest-one, done_at_once, undefined_step, changed_step}
+use Rattle.c_interp.proofs.Steps.{with_ops, with_store, calls_in, newest-one, done_at_once, undefined_step, changed_step, moved}
 use Rattle.c_interp.proofs.StmtSteps.{with_slots}
 
 pub given_step : (p : ProgramTree) (n : ℕ) (u : Unit) (old : Machine) (many : Vec Value Global) (v : Value) → old.flow ≡ Normal → many.items ≡ old.operands.items ++ v ∷ [] →
@@ -67,18 +68,21 @@ module _ (p : ProgramTree) (n : ℕ) (old : Machine) (s : Store) (width : ℕ) (
       undefined_step p n old new (store_run t at (Some v))
       (λ m i held. ap (λ o. on_defined o (λ q. reaches normal (with_memory (config_of old m i) q))) (not_stored_memory old s width t at v d is changes done m held.store))
 
-  pub written_step : (u : Unit) (many : Vec Value Global) (given : Option Value) → old.flow ≡ Normal → d ≡ true → many.items ≡ old.operands.items ++ unwrap_or given v ∷ [] →
-      IsStep p n (Ok u) old (with_ops (with_store old s) many) (write_run t at (Some v) given)
-  written_step u many given flow done pushed m held =
-      let (k, is_stored, it) = stored_memory old s width t at v d is changes done m held.store in
-      let new : Machine = with_ops (with_store old s) many in
-      let held' : IsHeld p new k = record { store = it; counts = held.counts } in
-      done_at_once p n old new (λ i. write_run t at (Some v) given (config_of old m i)) k refl held'
-      (λ i.
-      let x : Configuration = config_of old m i in
-      ap (λ o. on_defined o (λ q. reaches normal (with_operands (with_memory x q) (unwrap_or given v ∷ x.operands)))) is_stored
-      ∙ ap (λ vs. reaches normal (with_operands (with_memory x k) vs)) (sym (newest-one old.operands.items many.items (unwrap_or given v) pushed))
-      ∙ ap (λ f. reaches (flow_of f) (config_of new k i)) (sym flow))
+  -- the store is done, and the operand is given
+  pub written_step : (r : Result Unit Stop) (new : Machine) (given : Option Value) (g : Value) → d ≡ true → g ≡ unwrap_or given v →
+      IsStep p n r (with_store old s) new (give_run (Some g)) → IsStep p n r old new (write_run t at (Some v) given)
+  written_step r new given g done given_is step =
+      moved p n r old (with_store old s) new (write_run t at (Some v) given) (give_run (Some g)) refl
+      (λ m held.
+      let (k, is_stored, it) = stored_memory old s width t at v d is changes done m held.store in (
+        k,
+        record { store = it; counts = held.counts },
+        λ i.
+            let x : Configuration = config_of old m i in
+            ap (λ o. on_defined o (λ q. reaches normal (with_operands (with_memory x q) (unwrap_or given v ∷ x.operands)))) is_stored
+            ∙ ap (λ z. reaches normal (with_operands (with_memory x k) (z ∷ x.operands))) (sym given_is),
+      ))
+      step
 
   pub not_written_step : (new : Machine) (given : Option Value) → d ≡ false → IsStep p n (Err stop.Undefined) old new (write_run t at (Some v) given)
   not_written_step new given done =

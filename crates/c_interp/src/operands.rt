@@ -107,8 +107,7 @@ fn write_value(
         → IsStep p n result machine.old machine.new (write_run t.now at (Some v) given) }
 {
     if machine.store.store(access_width(t), at, v) {
-        machine.operands.push(given.unwrap_or(v))?;
-        Ok(())
+        give_value(machine, given.unwrap_or(v))
     } else {
         Err(Stop::Undefined)
     }
