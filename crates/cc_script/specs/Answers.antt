@@ -1,7 +1,6 @@
 -- What a session answers to the commands of a script.
 use Rattle.std.specs.Prelude.{◌≡◌, ◌++◌, ℕ, List, [], ◌∷◌, Option, None, Some, codes}
 use Rattle.std.specs.List.{flat_map}
-use Rattle.g_graph.specs.declared.steps.Rule.{Rule}
 use Rattle.cc_report.specs.Outcome.{line, text_of}
 use Rattle.cc_report.specs.Text.{decimal_text}
 use Rattle.cc_report.specs.declared.outcome.Outcome.TheVariants as outcome
@@ -39,26 +38,30 @@ pub record Held : Type 0 where
   pub image : Option (List ℕ)
 
 -- before the first command
-abbrev pub held_first : (source : List ℕ) → (recipe : List Rule) → Held
-held_first source recipe = record { session = record { source = source; recipe = recipe; last = None }; image = None }
+abbrev pub held_first : PlainSession → Held
+held_first session = record { session = session; image = None }
 
--- The text stands in place of the definition of the function, and OUT is not touched.
+-- The text stands in place of the definition of the function.
 pub record AnswersReplaced (before : Held) (name text : List ℕ) (after : Held) : Type 0 where
   pub replaced : Replaces before.session name text after.session
   pub image : after.image ≡ before.image
 
 -- The text would make a source that is refused so.
 pub record AnswersRefused (before : Held) (name text : List ℕ) (refusal : Refusal) : Type 0 where
-  pub fault : CompileFault
+  pub cause : CompileFault
   pub new : List ℕ
-  pub refused : IsReplaceRefused (fault.Source fault new) before.session name text
-  pub told : refusal_of fault new ≡ Some refusal
+  pub refused : IsReplaceRefused (fault.Source cause new) before.session name text
+  pub told : refusal_of cause new ≡ Some refusal
 
--- The image of the source is made, of which this many functions were stale, and does what the source does.
+-- The bytes are the image of the session's source, which does what the source does, and so many functions were stale.
+pub record IsMade (session : PlainSession) (bytes : List ℕ) (jobs : ℕ) : Type 0 where
+  pub rebuilt : IsRebuilt session bytes jobs
+  pub meaning : KeepsMeaning rebuilt.program (lambdas_of rebuilt.image.answers) bytes
+
+-- The image of the source is made.
 pub record AnswersImage (before : Held) (jobs : ℕ) (after : Held) : Type 0 where
   pub bytes : List ℕ
-  pub rebuilt : IsRebuilt before.session bytes jobs
-  pub meaning : KeepsMeaning rebuilt.program (lambdas_of rebuilt.image.answers) bytes
+  pub made : IsMade before.session bytes jobs
   pub after_is : after ≡ record { session = record before.session { last = Some before.session.source }; image = Some bytes }
 
 -- The session answers a command so. A refused edit leaves all as it was.
