@@ -94,11 +94,15 @@ IsNotCarriedOut image command _ old before after = ⊥
 
 -- ---- a command that is answered
 
+-- The next command was read: this one.
+pub record HasRead (command : Command) (count : ℕ) (before after : Outside) : Type 0 where
+  pub takes : TakesCommand first command before.input.bytes after.input.bytes
+  pub given : count < most_commands
+
 -- The next command was read, carried out and answered.
 pub record IsStep (image : Name) (old new : PlainSession) (count count' : ℕ) (before after : Outside) : Type 0 where
   pub command : Command
-  pub takes : TakesCommand first command before.input.bytes after.input.bytes
-  pub given : count < most_commands
+  pub read : HasRead command count before after
   pub counted : count' ≡ suc count
   pub answer : Answer
   pub carried : IsCarriedOut image command answer old new before.files after.files
@@ -110,26 +114,20 @@ pub record KeepsFaults (image : Name) (before after : Outside) : Type 0 where
   pub input : before.input.faults ≤ after.input.faults
   pub output : before.output.faults ≤ after.output.faults
 
--- There is no next command.
-pub record HasNoNext (ended : Outcome) (count : ℕ) (ahead : List ℕ) (before after : Outside) : Type 0 where
-  pub none : IsNoNext ended count before.input.bytes after.input.bytes ahead before.input.faults after.input.faults
-  pub files : Unchanged before.files after.files
+-- No file has changed, and nothing was written on the output.
+abbrev pub IsQuiet : (before after : Outside) → Type 0
+IsQuiet before after = Unchanged before.files after.files × (after.output.bytes ≡ before.output.bytes)
+
+-- It is `build`, and OUT was not written whole.
+pub record HasNotSaved (image : Name) (old : PlainSession) (count : ℕ) (before after : Outside) : Type 0 where
+  pub read : HasRead Build count before after
+  pub why : IsNotSaved image old before.files after.files
   pub output : after.output.bytes ≡ before.output.bytes
 
--- It was not carried out.
-pub record HasNotDone (image : Name) (ended : Outcome) (old : PlainSession) (count : ℕ) (before after : Outside) : Type 0 where
+-- It was carried out, and its line not written whole.
+pub record HasNotSaid (image : Name) (old : PlainSession) (count : ℕ) (before after : Outside) : Type 0 where
   pub command : Command
-  pub takes : TakesCommand first command before.input.bytes after.input.bytes
-  pub given : count < most_commands
-  pub why : IsNotCarriedOut image command ended old before.files after.files
-  pub output : after.output.bytes ≡ before.output.bytes
-
--- It was not answered.
-pub record HasNotSaid (image : Name) (ended : Outcome) (old : PlainSession) (count : ℕ) (before after : Outside) : Type 0 where
-  pub is : ended ≡ outcome.WriteFault
-  pub command : Command
-  pub takes : TakesCommand first command before.input.bytes after.input.bytes
-  pub given : count < most_commands
+  pub read : HasRead command count before after
   pub answer : Answer
   pub new : PlainSession
   pub carried : IsCarriedOut image command answer old new before.files after.files
@@ -137,9 +135,17 @@ pub record HasNotSaid (image : Name) (ended : Outcome) (old : PlainSession) (cou
   pub written : ℕ
   pub output : after.output.bytes ≡ append before.output.bytes (take written (line_of answer))
 
+-- How the script ends at its next command, after so many, where of the input this is read ahead.
 abbrev pub StepEnds : (image : Name) → Outcome → (old : PlainSession) → (count : ℕ) → (ahead : List ℕ) → (before after : Outside) → Type 0
-StepEnds image ended old count ahead before after =
-    HasNoNext ended count ahead before after ⊎ (HasNotDone image ended old count before after ⊎ HasNotSaid image ended old count before after)
+StepEnds image outcome.Done old count ahead before after = HasRead End count before after × IsQuiet before after
+StepEnds image (outcome.Script number) old count ahead before after =
+    IsNoNext (outcome.Script number) count before.input.bytes after.input.bytes ahead before.input.faults after.input.faults × IsQuiet before after
+StepEnds image outcome.ReadFault old count ahead before after =
+    IsNoNext outcome.ReadFault count before.input.bytes after.input.bytes ahead before.input.faults after.input.faults × IsQuiet before after
+StepEnds image outcome.NoMemory old count ahead before after =
+    IsNoNext outcome.NoMemory count before.input.bytes after.input.bytes ahead before.input.faults after.input.faults × IsQuiet before after
+StepEnds image outcome.WriteFault old count ahead before after = HasNotSaved image old count before after ⊎ HasNotSaid image old count before after
+StepEnds image _ old count ahead before after = ⊥
 
 -- ---- between two commands
 

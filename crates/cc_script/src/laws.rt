@@ -7,9 +7,10 @@ ghost use Rattle.cc_script.specs.Laws.{SessionsLeaveTheSame};
 pub fn sessions_leave_the_same()
     ensures { SessionsLeaveTheSame }
 {
+    cc_script_text::laws::the_rest_is_not_read();
     cc_source::laws::the_program_is_determined();
-    cc_compile::laws::the_image_is_determined();
-    cc_refusal::laws::a_source_has_one_refusal();
-    cc_refusal::laws::accepted_sources_are_not_refused();
     g_pass_order::laws::orders_are_unique();
+    cc_compile::laws::the_image_is_determined();
+    cc_source::laws::the_fault_is_determined();
+    cc_source::laws::accepted_is_not_refused();
 }

@@ -1,0 +1,5 @@
+mod Answering
+mod Reading
+mod Ends
+mod Same
+mod SessionLaws
