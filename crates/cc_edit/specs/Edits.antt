@@ -41,6 +41,11 @@ IsEditRefused fault.OtherNames before name text =
     (new : List ℕ) × IsReplaced before name text new × ((p : ProgramTree) × Accepts new p × (names_of p.functions ≢ names_of before.program.functions))
 IsEditRefused fault.NoMemory before name text = Unit {0}
 
+-- the fault of an edit that makes this source, which has this fault
+abbrev pub given_back : CompileFault → (source : List ℕ) → EditFault
+given_back compile.NoMemory source = fault.NoMemory
+given_back e source = fault.Source e source
+
 -- A source is not accepted, for its fault, and is given back; or memory ran out.
 abbrev pub IsNotAccepted : EditFault → (source : List ℕ) → Type 0
 IsNotAccepted (fault.Source e new) source = (e ≢ compile.NoMemory) × ((new ≡ source) × Refuses e source)

@@ -4,7 +4,7 @@ ghost use Rattle.std.specs.Prelude.{◌≡◌, None, IfErr, IfOk};
 ghost use Rattle.c_typed.specs.WellTyped.{IsWellTyped};
 ghost use Rattle.c_check_def.specs.Limits.{above_limits};
 ghost use Rattle.cc_source.specs.Accepted.{Accepts, Refuses};
-ghost use Rattle.cc_edit.specs.Edits.{IsEdited, IsEditRefused, IsNotAccepted};
+ghost use Rattle.cc_edit.specs.Edits.{given_back, IsEdited, IsEditRefused, IsNotAccepted};
 
 use crate::edit::{extent_of, have_same_names, replaced};
 use crate::fault::EditFault;
@@ -35,7 +35,21 @@ impl Model for AcceptedSource {
     ghost invariant = { λ a. IsAccepted a.source.items a.typed };
 }
 
+// The fault of an edit that makes this source, which has this fault.
+fn given_back(fault: CompileFault, new: Vec<u8>) -> EditFault
+    ensures { result ≡ given_back fault new.items }
+{
+    match fault {
+        CompileFault::NoMemory => EditFault::NoMemory,
+        fault => EditFault::Source {
+            fault,
+            new: Bytes::from_vec(new),
+        },
+    }
+}
+
 // The source that an edit makes, where it is accepted; else it is given back with its fault.
+
 fn accepted_or_back(alloc: Global, new: Vec<u8>) -> Result<AcceptedSource, EditFault>
     ensures same { IfOk result (λ a. a.source ≡ new.items) }
     ensures accepted { IfOk result (λ a. Accepts new.items a.program) }
@@ -43,11 +57,7 @@ fn accepted_or_back(alloc: Global, new: Vec<u8>) -> Result<AcceptedSource, EditF
 {
     match accepted_of(alloc, &new) {
         Ok(typed) => Ok(AcceptedSource { source: new, typed }),
-        Err(CompileFault::NoMemory) => Err(EditFault::NoMemory),
-        Err(fault) => Err(EditFault::Source {
-            fault,
-            new: Bytes::from_vec(new),
-        }),
+        Err(fault) => Err(given_back(fault, new)),
     }
 }
 
@@ -100,7 +110,10 @@ impl AcceptedSource {
             None => return Err(EditFault::NoFunction),
         };
         let source = replaced(alloc, &self.source, extent, text)?;
-        let after = accepted_or_back(alloc, source)?;
+        let after = match accepted_or_back(alloc, source) {
+            Ok(after) => after,
+            Err(fault) => return Err(fault),
+        };
         if !have_same_names(&after.typed.functions, &self.typed.functions) {
             drop(after);
             return Err(EditFault::OtherNames);

@@ -1,5 +1,6 @@
 mod Answering
 mod Reading
 mod Ends
+mod Stepping
 mod Same
 mod SessionLaws

@@ -1,7 +1,7 @@
 //! What a session answers to a command, and the line of each answer.
 
 ghost use Rattle.std.specs.Prelude.{◌≡◌, ◌≤◌, ◌+◌, ◌++◌, length};
-ghost use Rattle.cc_report.specs.Outcome.{limit_text, text_of};
+ghost use Rattle.cc_report.specs.Outcome.{limit_text, line, text_of};
 ghost use Rattle.cc_report.specs.declared.outcome.Outcome.TheVariants as outcome;
 ghost use Rattle.cc_script.specs.Answers.{line_of};
 
@@ -24,7 +24,7 @@ pub enum Answer {
 
 fn text_line(text: &[u8]) -> Line
     requires { length text.now ≤ 191 }
-    ensures { result ≡ text.now ++ 10 ∷ [] }
+    ensures { result ≡ line text.now }
 {
     let mut line = Line::new();
     push_text(&mut line, text);
