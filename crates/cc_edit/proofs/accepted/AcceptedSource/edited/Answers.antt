@@ -24,8 +24,8 @@ returns-then-not-have_same_names-clause-refused c =
         is = c.in_ok-source.ensures ∙ ap (λ (s : List ℕ). replaced s c.in-Some.extent c.args.text.now) source;
       },
       (
-        c.in_ok-after.after.program,
-        c.in_ok-after.ensures.accepted,
+        c.in-Ok.after.program,
+        c.in-Ok.ensures.accepted,
         λ p. let e = names.1 (ap names_of after-functions ∙ (p ∙ sym (ap names_of old-functions))) in grind (arith, common_steps, e),
       ),
     )
@@ -41,9 +41,9 @@ returns-clause-edited c =
       replaced = record {
         extent = c.in-Some.extent;
         found = sym (c.in-Some.ensures ∙ ap (λ (fs : List FunctionTree). extent_of fs c.args.name.now) functions);
-        is = c.in_ok-after.ensures.same ∙ (c.in_ok-source.ensures ∙ ap (λ (s : List ℕ). replaced s c.in-Some.extent c.args.text.now) source);
+        is = c.in-Ok.ensures.same ∙ (c.in_ok-source.ensures ∙ ap (λ (s : List ℕ). replaced s c.in-Some.extent c.args.text.now) source);
       };
-      accepted = subst (λ (s : List ℕ). Accepts s c.in_ok-after.after.program) (sym c.in_ok-after.ensures.same) c.in_ok-after.ensures.accepted;
+      accepted = subst (λ (s : List ℕ). Accepts s c.in-Ok.after.program) (sym c.in-Ok.ensures.same) c.in-Ok.ensures.accepted;
       same_names = sym (ap names_of after-functions) ∙ (names.0 (grind (arith, common_steps)) ∙ ap names_of old-functions);
     }
 
