@@ -75,7 +75,6 @@ impl Session {
     /// is not accepted; `OtherNames` where the functions that it defines, in order, have not the
     /// names that they had. `NoMemory` may come in place of any answer. The session is then as it
     /// was.
-    #[tactic(none)]
     pub fn replace(&mut self, name: &[u8], text: &[u8]) -> Result<(), EditFault>
         ensures replaced { OnOk result (Replaces self.old name.now text.now self.new) }
         ensures refused { IfErr result (λ e. IsReplaceRefused e self.old name.now text.now) }
