@@ -58,6 +58,17 @@ if [ -e /dev/zero ]; then
     ends 4 'refused LongSource 10 line 1' </dev/zero
 fi
 
+# A log that is too long: a file of holes, which is read and held. So it wants as much memory as that and what it grows by.
+cp examples/answer.c "$source"
+free=$(sed -n 's/^MemAvailable: *\([0-9]*\) kB$/\1/p' /proc/meminfo 2>/dev/null)
+if [ "${free:-0}" -ge 8388608 ]; then
+    truncate -s 2147483649 "$folder/long.log" || fail 'no file of holes is made'
+    ends 8 'log LongLog 66 line 1' check "$source" "$folder/long.log" "$image"
+    rm -f "$folder/long.log"
+else
+    echo "$script: a log that is too long is not tried, there are fewer than 8 GiB of memory"
+fi
+
 # The longest source.
 { cat examples/answer.c; yes '' | head -c $((1048576 - $(wc -c <examples/answer.c))); } >"$source"
 same 64 "$default"
@@ -143,6 +154,8 @@ runs G 'exit 118'
 counts='functions 201 fold 6 cne 916 dne 3216 inv 841 psh 3744 pll 3544 ivt 0 url 300 iln 141 before 29220 after 64889'
 ends 0 "$counts" build "$source" "$image" --report count
 ends 0 "$counts" build "$source" "$image" --report count --workers 8
+"$program" build "$source" "$image" --report log --workers 8 2>"$folder/built.log" || fail 'the log of a build is not made'
+ends 0 yes check "$source" "$folder/built.log" "$image"
 ends 0 '' gen 1 2 "$source"
 ends 0 'functions 3 fold 2 cne 9 dne 42 inv 10 psh 50 pll 48 ivt 0 url 4 iln 2 before 312 after 848' build "$source" "$image" --report count
 echo "$script: the largest builds are the same by many workers; files that cannot be read or written have their status"

@@ -1,6 +1,6 @@
 #!/bin/sh
-# Refuses each allocation of commands in turn: builds of four sources by 1 and 2 workers under each report, runs, a source on the input,
-# and a generated program. A command ends as it does with all its memory, or reports `memory` and has written nothing and made no file
+# Refuses each allocation of commands in turn: builds of four sources by 1 and 2 workers under each report, runs, checks, a source on the
+# input, and a generated program. A command ends as it does with all its memory, or reports `memory` and has written nothing and made no file
 # (the whole one where the text of a report found no memory). `read fault` and `write fault` come where the name of the file that is opened
 # or created found no memory, and nowhere else: the names are of lengths that nothing else has. That needs gcc. Without it, the first
 # allocation of the program is refused by rt.
@@ -151,6 +151,9 @@ for source in one four chain squares; do
     "$program" build "$folder/$source.c" "$folder/$source.elf" || fail "$source.c is not built"
     image=$(named $source.elf $read_length) || exit 1
     refuse "$opening" "$folder/nothing" run "$image"
+    "$program" build "$folder/$source.c" "$folder/$source.elf" --report log 2>"$folder/$source.log" || fail "$source.c has no log"
+    log=$(named $source.log $read_length) || exit 1
+    refuse "$opening$opening$opening" "$folder/nothing" check "$in" "$log" "$image"
 done
 refuse "$creation" "$folder/nothing" gen 7 20 "$out"
 echo "$script: $refused commands without an allocation end as they should, $reads of them by a file that was not opened, $writes not created"

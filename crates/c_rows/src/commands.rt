@@ -37,6 +37,9 @@ fn say_one(out: &mut String, command: Command<'_>) -> Result<(), NoMemory> {
             functions,
             out: image,
         } => write!(out, "generate {functions} from {start} to {image}\n")?,
+        Command::Check { source, log, image } => {
+            write!(out, "check {source} by {log} for {image}\n")?
+        }
     }
     Ok(())
 }

@@ -1,7 +1,7 @@
 -- Each list of arguments is read as its row says.
 use Rattle.std.proofs.Common.{refl}
 use Rattle.cc_command.specs.Command.{number_in}
-use Rattle.cc_command.specs.CommandRows.{BuildRows, RecipeRows, WorkersRows, ReportRows, RunRows, OtherRows, GenRows}
+use Rattle.cc_command.specs.CommandRows.{BuildRows, RecipeRows, WorkersRows, ReportRows, RunRows, OtherRows, GenRows, CheckRows}
 
 pub build_rows : BuildRows
 unfolding number_in
@@ -116,4 +116,19 @@ run_rows = record {
   cut_short = refl;
   two_images = refl;
   no_image = refl;
+}
+
+pub check_rows : CheckRows
+check_rows = record {
+  three_names = refl;
+  one_name_thrice = refl;
+  empty_names = refl;
+  hyphens_first = refl;
+  two_names = refl;
+  four_names = refl;
+  no_name = refl;
+  workers = refl;
+  recipe = refl;
+  help_for_a_name = refl;
+  another_case = refl;
 }

@@ -15,6 +15,8 @@ pub data Command : Type 0 where
   run : List ℕ → (steps : ℕ) → Command
   -- write the generated program of this many functions, whose draws begin with a number, to the file of this name
   generate : (start functions : ℕ) → List ℕ → Command
+  -- say whether the log certifies the image as one of the source
+  check : (source log image : Text) → Command
 
 -- ---- numbers
 
@@ -108,8 +110,25 @@ generate_form = record {
   command = generate_of;
 }
 
+-- `check IN LOG IMG`
+abbrev pub check_of : List Value → Option Command
+check_of (text source ∷ text log ∷ text image ∷ []) = Some (check source log image)
+check_of _ = None
+
+abbrev pub check_form : Form Command
+check_form = record {
+  name = codes "check";
+  positionals =
+      record { name = codes "IN"; read = read_text }
+      ∷ record { name = codes "LOG"; read = read_text }
+      ∷ record { name = codes "IMG"; read = read_text }
+      ∷ [];
+  options = [];
+  command = check_of;
+}
+
 abbrev pub forms : List (Form Command)
-forms = build_form ∷ run_form ∷ generate_form ∷ []
+forms = build_form ∷ run_form ∷ generate_form ∷ check_form ∷ []
 
 -- The command of all arguments, the program's name first. No arguments at all are read as the name alone.
 abbrev pub command_of : List Text → Option Command

@@ -1,6 +1,6 @@
 -- Lists of arguments with their commands.
 use Rattle.std.specs.Prelude.{◌≡◌, ℕ, List, [], ◌∷◌, Option, Some, None, codes}
-use Rattle.cc_command.specs.Command.{Command, accept, build as build_by, default_recipe, run, generate, command_of}
+use Rattle.cc_command.specs.Command.{Command, accept, build as build_by, default_recipe, run, generate, check, command_of}
 
 -- the command of the arguments after the program's name
 abbrev pub command_after_name : List (List ℕ) → Option Command
@@ -116,5 +116,19 @@ pub record GenRows : Type 0 where
   pub two_arguments : command_after_name (codes "gen" ∷ codes "1" ∷ codes "1" ∷ []) ≡ None
   pub four_arguments : command_after_name (codes "gen" ∷ codes "1" ∷ codes "1" ∷ codes "x" ∷ codes "y" ∷ []) ≡ None
 
+-- the names of `check`
+pub record CheckRows : Type 0 where
+  pub three_names : command_after_name (codes "check" ∷ codes "a" ∷ codes "b" ∷ codes "c" ∷ []) ≡ Some (check (codes "a") (codes "b") (codes "c"))
+  pub one_name_thrice : command_after_name (codes "check" ∷ codes "a" ∷ codes "a" ∷ codes "a" ∷ []) ≡ Some (check (codes "a") (codes "a") (codes "a"))
+  pub empty_names : command_after_name (codes "check" ∷ [] ∷ codes "-" ∷ [] ∷ []) ≡ Some (check [] (codes "-") [])
+  pub hyphens_first : command_after_name (codes "check" ∷ codes "--" ∷ codes "-a" ∷ codes "--" ∷ codes "--workers" ∷ []) ≡ Some (check (codes "-a") (codes "--") (codes "--workers"))
+  pub two_names : command_after_name (codes "check" ∷ codes "a" ∷ codes "b" ∷ []) ≡ None
+  pub four_names : command_after_name (codes "check" ∷ codes "a" ∷ codes "b" ∷ codes "c" ∷ codes "d" ∷ []) ≡ None
+  pub no_name : command_after_name (codes "check" ∷ []) ≡ None
+  pub workers : command_after_name (codes "check" ∷ codes "a" ∷ codes "b" ∷ codes "c" ∷ codes "--workers" ∷ codes "2" ∷ []) ≡ None
+  pub recipe : command_after_name (codes "check" ∷ codes "a" ∷ codes "b" ∷ codes "c" ∷ codes "--recipe=fold" ∷ []) ≡ None
+  pub help_for_a_name : command_after_name (codes "check" ∷ codes "a" ∷ codes "b" ∷ codes "help" ∷ []) ≡ None
+  pub another_case : command_after_name (codes "Check" ∷ codes "a" ∷ codes "b" ∷ codes "c" ∷ []) ≡ None
+
 abbrev pub CommandRows : Type 0
-CommandRows = BuildRows × RecipeRows × WorkersRows × ReportRows × RunRows × OtherRows × GenRows
+CommandRows = BuildRows × RecipeRows × WorkersRows × ReportRows × RunRows × OtherRows × GenRows × CheckRows

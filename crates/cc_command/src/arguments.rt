@@ -6,7 +6,7 @@ ghost use Rattle.limits.specs.Limits.{most_workers};
 ghost use Rattle.clap.specs.Words.{app_of, first_of, found_of, rows_of, shape_of, subcommand_rows_of};
 ghost use Rattle.clap.specs.declared.builder.command.Command.TheViews.{out-Command as fields_of};
 ghost use Rattle.cc_command.specs.Arguments.{rvcc, shape_of_form};
-ghost use Rattle.cc_command.specs.Command.{command_of, build_form, forms, generate_form, recipe_option, run_form, steps_option, workers_option};
+ghost use Rattle.cc_command.specs.Command.{command_of, build_form, check_form, forms, generate_form, recipe_option, run_form, steps_option, workers_option};
 ghost use Rattle.cc_command.specs.Forms.{form_named, number, text, value_or_default};
 ghost use Rattle.cc_command.specs.Reading.{found_by, read_by, read_command};
 ghost use Rattle.cc_command.specs.PlainCommand.{plain_command, HasWorkers};
@@ -48,6 +48,13 @@ pub enum Command<'a> {
         functions: u32,
         out: &'a str,
     },
+    /// `check IN LOG IMG`: say whether the log in the file named LOG certifies the image in the one
+    /// named IMG as an image of the source in the one named IN.
+    Check {
+        source: &'a str,
+        log: &'a str,
+        image: &'a str,
+    },
 }
 
 fn build_arguments<'a>(alloc: Global) -> Result<Reader<'a>, AllocError>
@@ -78,6 +85,15 @@ fn generate_arguments<'a>(alloc: Global) -> Result<Reader<'a>, AllocError>
     with_required(alloc, command, "OUT")
 }
 
+fn check_arguments<'a>(alloc: Global) -> Result<Reader<'a>, AllocError>
+    ensures shape { IfOk result (λ c. shape_of c ≡ shape_of_form check_form) }
+    ensures globals { IfOk result (λ c. (fields_of c).has_globals ≡ false) }
+{
+    let command = with_required(alloc, Reader::new(alloc, "check"), "IN")?;
+    let command = with_required(alloc, command, "LOG")?;
+    with_required(alloc, command, "IMG")
+}
+
 /// The program, of which each command is a subcommand.
 fn rvcc<'a>(alloc: Global) -> Result<Reader<'a>, AllocError>
     ensures { IfOk result (λ c. app_of c ≡ rvcc) }
@@ -85,7 +101,8 @@ fn rvcc<'a>(alloc: Global) -> Result<Reader<'a>, AllocError>
     Reader::new(alloc, "rvcc")
         .subcommand(build_arguments(alloc)?)?
         .subcommand(run_arguments(alloc)?)?
-        .subcommand(generate_arguments(alloc)?)
+        .subcommand(generate_arguments(alloc)?)?
+        .subcommand(check_arguments(alloc)?)
 }
 
 // The recipe of a build that names none.
@@ -163,6 +180,17 @@ fn generate_in<'a>(arguments: &ArgMatches<'a>) -> Option<Command<'a>>
     })
 }
 
+fn check_in<'a>(arguments: &ArgMatches<'a>) -> Option<Command<'a>>
+    ensures { option_map plain_command result
+        ≡ read_by check_form (rows_of (found_of arguments.now)) }
+{
+    Some(Command::Check {
+        source: value(arguments, "IN")?,
+        log: value(arguments, "LOG")?,
+        image: value(arguments, "IMG")?,
+    })
+}
+
 /// The command of this name with these arguments.
 fn command_named<'a>(name: &str, arguments: &ArgMatches<'a>) -> Option<Command<'a>>
     ensures command { option_map plain_command result
@@ -174,6 +202,7 @@ fn command_named<'a>(name: &str, arguments: &ArgMatches<'a>) -> Option<Command<'
         "build" => build_in(arguments),
         "run" => run_in(arguments),
         "gen" => generate_in(arguments),
+        "check" => check_in(arguments),
         _ => None,
     }
 }

@@ -8,7 +8,7 @@ use Rattle.cc_report.specs.declared.refusal.Refusal.{Refusal}
 use Rattle.cc_refusal.specs.Refusal.{refusal_of}
 use Rattle.cc_source.specs.declared.fault.CompileFault.{CompileFault}
 use Rattle.cc_emit_def.specs.Image.{lambdas_of}
-use Rattle.cc_compile_keeps.specs.Meaning.{KeepsMeaning}
+use Rattle.cc_source_keeps.specs.Meaning.{KeepsMeaning}
 use Rattle.cc_edit.specs.declared.fault.EditFault.TheVariants as fault
 use Rattle.cc_session.specs.Session.{PlainSession, Replaces, IsReplaceRefused}
 use Rattle.cc_session.specs.Rebuilds.{IsRebuilt}

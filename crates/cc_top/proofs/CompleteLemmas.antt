@@ -1,8 +1,8 @@
 -- A command that has what it asks for, and none of whose calls failed, is done, from how it ends.
-use Rattle.std.proofs.Common.{◌≡◌, ◌⊎◌, ℕ, List, Option, Some, None, Ok, Err, refl, sym, ◌∙◌, inl, inr, subst}
+use Rattle.std.proofs.Common.{◌≡◌, ◌⊎◌, ℕ, List, Option, Some, None, Ok, Err, refl, sym, ap, ◌∙◌, inl, inr, subst}
 use Rattle.std.specs.Option.{ForSome}
 use Rattle.c_typed.specs.Typed.{ProgramTree}
-use Rattle.cc_command.specs.Command.{Command, accept, build, run, generate}
+use Rattle.cc_command.specs.Command.{Command, accept, build, run, generate, check}
 use Rattle.cc_source.specs.Accepted.{Accepts}
 use Rattle.cc_io.specs.Faults.{Increased}
 use Rattle.cc_io.specs.Files.{Name, content}
@@ -12,7 +12,8 @@ use Rattle.elf_file.specs.declared.fault.ElfFault.{ElfFault}
 use Rattle.cc_build.specs.AcceptEnds.{AcceptCause}
 use Rattle.cc_build.specs.BuildEnds.{BuildEnds}
 use Rattle.cc_outside.specs.Outside.{IfKnown, ReadFails, WriteFails, FilesSeen, Outside, StreamSeen}
-use Rattle.cc_top.specs.Completes.{Completes, IsDone, Works}
+use Rattle.cc_certify.specs.CheckEnds.{CertifiedIsTold, CheckEnds}
+use Rattle.cc_top.specs.Completes.{CheckCompletes, Completes, IsDone, Works}
 use Rattle.cc_top.specs.Ends.{Ends}
 use Rattle.cc_run.specs.GenerateEnds.{GenerateEnds}
 use Rattle.cc_report.specs.Outcome.{status_of}
@@ -80,9 +81,19 @@ run-done image steps ReadFault before after h reads input output = elim h.cause 
 run-done image steps WriteFault before after h reads input output = absurd (output h.cause)
 run-done image steps _ before after h reads input output = absurd h.cause
 
+check-done : CertifiedIsTold → (source log image : Name) (ended : Outcome) (before after : FilesSeen) → CheckEnds source log image ended before after
+    → CheckCompletes source log image (status_of ended) before after
+check-done told source log image ended before after ends = record {
+  certified = λ a b d files is certifies.
+      elim (told source log image ended before after ends a b d files is certifies) [
+        | inl certified ↦ inl (ap status_of certified)
+        | inr memory ↦ inr (ap status_of memory)
+      ];
+}
+
 -- ---- the command
 
-module _ (law : AcceptedIsNotRefused) {W : Type 0} (named : W → List ℕ) (stands_for : W → List PlainRow → Type 0) (text_of : W → List PlainRow → List ℕ) where
+module _ (law : AcceptedIsNotRefused) (told : CertifiedIsTold) {W : Type 0} (named : W → List ℕ) (stands_for : W → List PlainRow → Type 0) (text_of : W → List PlainRow → List ℕ) where
   ended-completes : (c : Option Command) (ended : Outcome) (said : List ℕ) (before after : Outside) (ws ws' : List W) → Ends named stands_for text_of c ended said before after ws ws'
       → Completes named c (status_of ended) before after ws
   ended-completes None ended said before after ws ws' h = tt
@@ -91,6 +102,7 @@ module _ (law : AcceptedIsNotRefused) {W : Type 0} (named : W → List ℕ) (sta
       build-done law named stands_for text_of recipe name source image ended said before.files after.files ws ws' (h.0.build recipe is some)
   ended-completes (Some (generate start functions out)) ended said before after ws ws' h = generate-done start functions out ended before.files after.files h.0
   ended-completes (Some (run image steps)) ended said before after ws ws' h = run-done image steps ended before after h.0
+  ended-completes (Some (check source log image)) ended said before after ws ws' h = check-done told source log image ended before.files after.files h.0
 
   pub completes : (c : Option Command) (ended : Outcome) (said : List ℕ) (before after : Outside) (ws ws' : List W) → Ends named stands_for text_of c ended said before after ws ws'
       → (status : ℕ) (held held' : Option (List ℕ)) (faults faults' : ℕ) → IsReported ended said status held held' faults faults' → (Increased faults faults' → ⊥)

@@ -4,11 +4,12 @@ use Rattle.std.specs.Option.{ForSome}
 use Rattle.g_graph.specs.declared.steps.Rule.{Rule}
 use Rattle.c_typed.specs.Typed.{ProgramTree}
 use Rattle.elf_file.specs.Loading.{Executable, loaded}
-use Rattle.cc_command.specs.Command.{Command, accept, build, run, generate}
+use Rattle.cc_command.specs.Command.{Command, accept, build, run, generate, check}
 use Rattle.cc_source.specs.Accepted.{Accepts}
 use Rattle.cc_io.specs.Faults.{Increased}
 use Rattle.cc_io.specs.Files.{Name, content}
 use Rattle.cc_outside.specs.Outside.{IfKnown, ReadFails, WriteFails, FilesSeen, Outside, StreamSeen}
+use Rattle.log_judge.specs.Judgement.{Certifies}
 use Rattle.cc_build.specs.BuildEnds.{IsTextOf}
 use Rattle.cc_build.specs.Watchers.{has_reporter}
 
@@ -41,6 +42,12 @@ abbrev pub AcceptCompletes : (status : ℕ) (input input' output output' : Strea
 AcceptCompletes status input input' output output' =
     Works input input' → Works output output' → ForSome input.bytes (λ text. (p : ProgramTree) → Accepts text p → IsDone status)
 
+-- a check of known files, of which the log certifies the image
+pub record CheckCompletes (source log image : Name) (status : ℕ) (before after : FilesSeen) : Type 0 where
+  pub certified :
+      (ReadFails source before after → ⊥) → (ReadFails log before after → ⊥) → (ReadFails image before after → ⊥) →
+      ForSome before.known (λ files. Certifies (content source files) (content log files) (content image files) → IsDone status)
+
 abbrev pub Completes : {W : Type 0} (named : W → List ℕ) → Option Command → (status : ℕ) → (before after : Outside) → List W → Type 0
 Completes named None status before after ws = Unit {0}
 Completes named (Some accept) status before after ws = AcceptCompletes status before.input after.input before.output after.output
@@ -48,3 +55,4 @@ Completes named (Some (build source image list workers name)) status before afte
     BuildCompletes named list name source image status before.files after.files ws
 Completes named (Some (generate start functions out)) status before after ws = GenerateCompletes out status before.files after.files
 Completes named (Some (run image steps)) status before after ws = RunCompletes image status before after
+Completes named (Some (check source log image)) status before after ws = CheckCompletes source log image status before.files after.files

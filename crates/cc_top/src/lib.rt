@@ -1,7 +1,8 @@
 //! The top call: it carries out a command, and tells how it ended. The command is what the
 //! arguments of a command line ask for; it works over the files and streams that it is handed. Each
 //! status comes at its cause. On status 0 of `build` the source is accepted, OUT is exactly its
-//! image under the recipe, and on the machine OUT does what the source does.
+//! image under the recipe, and on the machine OUT does what the source does; on status 0 of `check`
+//! the source is accepted and IMG does what it does, whoever wrote log and image.
 //! Always: a refused build creates no file.
 #![tactic(auto)]
 
@@ -16,6 +17,7 @@ ghost use Rattle.cc_report.specs.Report.{IsReported, outcome_of, said_by};
 
 use board_work::Gate;
 use cc_build::{accept, build};
+use cc_certify::check;
 use cc_command::{Command, parse_command};
 use cc_io::{Files, Sink, Source};
 use cc_report::{Ending, Outcome, tell};
@@ -38,6 +40,11 @@ use std::thread::Threads;
 /// [--steps N]` runs the executable IMG for at most N instructions, from `input` to `output`. `gen
 /// NUMBER COUNT OUT` writes the generated program of COUNT functions, 1 to
 /// `MOST_GENERATED_FUNCTIONS`, whose draws begin with NUMBER, 0 to 4294967295, to the file OUT.
+/// `check IN LOG IMG` says whether the log in the file LOG certifies the image in the file IMG as
+/// one of the source IN: whether the log's steps, each done at its node, lead from the functions of
+/// IN to those of IMG, byte for byte. Where they do, IMG does what the source does, as OUT of a
+/// build does, whoever wrote LOG and IMG. Not every image that does so has such a log. No file
+/// changes.
 /// Without arguments the source on `input` is compiled and the line `accepted F` written on
 /// `output`, F being the number of functions that it defines; no file changes. What a user reads of
 /// the end is written on `report`: on status 0 of `build` the text of the report that is asked for,
@@ -53,8 +60,8 @@ use std::thread::Threads;
 /// it makes a function. OUT is the same for every N. A call may wait, and what is said here holds
 /// where it returns. The statuses:
 ///
-/// - 0: `build` or `gen` wrote OUT, `accepted F` was written, or the program that `run` ran has
-///   exited; the line has its exit status.
+/// - 0: `build` or `gen` wrote OUT, `accepted F` was written, the program that `run` ran has
+///   exited, and the line has its exit status, or LOG certifies IMG, and the line is `yes`.
 /// - 1: the arguments are no command, LIST is no recipe, or no watcher has the name NAME. Nothing
 ///   has changed.
 /// - 2: a file or the input was not read, since a call failed. No file has changed.
@@ -69,6 +76,8 @@ use std::thread::Threads;
 ///   that OUT is whole where memory ran out for the text of the report.
 /// - 7: the program that `run` ran used up its stack, was not done after N instructions, or came to
 ///   an instruction that cannot be done.
+/// - 8: LOG does not certify IMG; the line names the fault and its number, and the line of LOG that
+///   has it or the first byte at which IMG is another one. Nothing has changed.
 pub fn top<H: Threads + Wait + Sync, F: Files, I: Source, O: Sink, E: Sink, G: Gate>(
     rt: &H,
     alloc: Global,
@@ -98,6 +107,7 @@ pub fn top<H: Threads + Wait + Sync, F: Files, I: Source, O: Sink, E: Sink, G: G
         watchers.old.items }
 {
     cc_refusal::laws::accepted_sources_are_not_refused();
+    cc_certify::laws::certified_is_told();
     let ending = carry_out(rt, alloc, words, files, input, output, gate, watchers);
     tell(report, &ending)
 }
@@ -144,5 +154,8 @@ fn carry_out<H: Threads + Wait + Sync, F: Files, I: Source, O: Sink, G: Gate>(
             functions,
             out,
         } => Ending::Line(generated::write_generated(files, start, functions, out)),
+        Command::Check { source, log, image } => {
+            Ending::Line(check(alloc, files, source, log, image))
+        }
     }
 }

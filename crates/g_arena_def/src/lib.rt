@@ -1,5 +1,4 @@
-//! Lambdas as a list of nodes in pre-order, each with the place where it stands. Nothing in it
-//! runs.
+//! Lambdas as a list of nodes in pre-order, and the changes of one place of it. Nothing in it runs.
 //! Always: a list of nodes with numbers of their own is that of one lambda alone.
 #![tactic(auto)]
 

@@ -1,6 +1,6 @@
 use Rattle.std.specs.Prelude.{refl, ℕ, List, [], Option, None, Some}
 use mathlib.Core.Logic.{inl, inr}
-use Rattle.cc_command.specs.Command.{Command, accept, build, run, generate}
+use Rattle.cc_command.specs.Command.{Command, accept, build, run, generate, check}
 use Rattle.cc_watch.specs.Rows.{PlainRow}
 use Rattle.cc_top.specs.Ends.{Ends}
 use Rattle.cc_report.specs.Outcome.{text_of as line_of}
@@ -18,6 +18,7 @@ module _ {W : Type 0} (named : W → List ℕ) (stands_for : W → List PlainRow
       (record { build = λ rules is has. inl (refl, refl); usage = λ none. (inr refl, refl, refl); line = λ other. refl }, (refl, refl))
   memory-ends (Some (generate start functions out)) x ws = (refl, (refl, refl), refl, refl)
   memory-ends (Some (run image steps)) x ws = (record { cause = (refl, refl); files = refl; run = λ files is. tt }, refl, refl)
+  memory-ends (Some (check source log image)) x ws = (record { cause = tt; files = refl }, (refl, refl), refl, refl)
 
 pub returns-in-Err : goal.returns-in-Err
 returns-in-Err g c = memory-ends _ _ _ _ _ _

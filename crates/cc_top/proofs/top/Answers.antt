@@ -4,4 +4,4 @@ use Rattle.cc_top.proofs.top.Goals as goal
 
 pub returns-clause-complete : goal.returns-clause-complete
 returns-clause-complete g c =
-    completes c.accepted_sources_are_not_refused.ensures _ _ _ _ (outcome_of c.carry_out-ending.result) (said_by c.carry_out-ending.result) _ _ _ _ c.carry_out-ending.ensures _ _ _ _ _ c.tell.ensures
+    completes c.accepted_sources_are_not_refused.ensures c.certified_is_told.ensures _ _ _ _ (outcome_of c.carry_out-ending.result) (said_by c.carry_out-ending.result) _ _ _ _ c.carry_out-ending.ensures _ _ _ _ _ c.tell.ensures

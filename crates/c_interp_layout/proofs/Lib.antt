@@ -1,0 +1,4 @@
+mod Leaves
+mod Numbers
+mod Written
+mod Cells

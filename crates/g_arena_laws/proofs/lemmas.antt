@@ -1,0 +1,17 @@
+pub mod Outside
+pub mod Regions
+pub mod Around
+pub mod Inputs
+pub mod Blocks
+pub mod FromLast
+pub mod Composed
+pub mod There
+pub mod Regional
+pub mod Kept
+pub mod NodeGoes
+pub mod UsesMove
+pub mod Reading
+pub mod Standing
+pub mod Kinds
+pub mod Listed
+pub mod Carried
