@@ -53,4 +53,4 @@ pub record IsTextOf (recipe : List Rule) (text : List ℕ) : Type 0 where
 -- The session ends so under the recipe that the list is of. Where it is of none the arguments are no command.
 pub record SessionEndsUnder (list : List ℕ) (source image : Name) (ended : Outcome) (before after : Outside) : Type 0 where
   pub session : (recipe : List Rule) → IsTextOf recipe list → SessionEnds recipe source image ended before after
-  pub usage : ((recipe : List Rule) → IsTextOf recipe list → ⊥) → (ended ≡ outcome.Usage) × (after ≡ before)
+  pub usage : ((recipe : List Rule) → IsTextOf recipe list → ⊥) → ((ended ≡ outcome.Usage) ⊎ (ended ≡ outcome.NoMemory)) × (after ≡ before)
