@@ -4,3 +4,4 @@ mod Ends
 mod Stepping
 mod Same
 mod SessionLaws
+mod Under

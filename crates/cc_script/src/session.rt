@@ -54,6 +54,7 @@ fn session_under<H: Threads + Wait + Sync, F: Files, I: Source, O: Sink, G: Gate
 }
 
 // The recipe of a text; none where it is of no recipe.
+#[tactic(auto, using(crate::proofs::Under::no_recipe))]
 fn recipe_of(text: &str) -> Option<Recipe>
     ensures some { IfSome result (λ recipe. IsTextOf recipe text.now) }
     ensures none { IfNone result ((recipe : List Rule) → IsTextOf recipe text.now → ⊥) }
@@ -67,6 +68,7 @@ fn recipe_of(text: &str) -> Option<Recipe>
 /// of the session's source; 1 to `MOST_WORKERS` workers make it, each of which passes the gate
 /// before it makes a function. A text of no recipe is usage; no file is opened then. Nothing is read
 /// of the input before the source is accepted, and then only where the command at hand lacks bytes.
+#[tactic(auto, using(crate::proofs::Under::under_it, crate::proofs::Under::under_none))]
 pub fn session<H: Threads + Wait + Sync, F: Files, I: Source, O: Sink, G: Gate>(
     rt: &H,
     alloc: Global,
