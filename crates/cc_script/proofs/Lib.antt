@@ -5,3 +5,4 @@ mod Stepping
 mod Same
 mod SessionLaws
 mod Under
+mod Opening
