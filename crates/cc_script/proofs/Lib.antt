@@ -6,3 +6,4 @@ mod Same
 mod SessionLaws
 mod Under
 mod Opening
+mod Making

@@ -56,6 +56,7 @@ fn source_of(session: &Session) -> &[u8]
 }
 
 // The image of the session's source, which does what the source does.
+#[tactic(auto, using(crate::proofs::Making::made_of))]
 fn image_of<H: Threads + Wait + Sync, G: Gate>(
     rt: &H,
     session: &mut Session,
