@@ -197,15 +197,15 @@ module _ (one_program : source.OneProgram) (orders : OrdersAreUnique) (one_image
   one_answer before x y Build _ b h k = absurd h
   one_answer before x y End a b h k = absurd h
 
-  pub one_list : (before x y : Held) (commands : List Command) (as bs : List Answer) → AreAnswered before commands as x → AreAnswered before commands bs y → (as ≡ bs) × (x ≡ y)
+  pub one_list : (before x y : Held) (commands : List Command) (given others : List Answer) → AreAnswered before commands given x → AreAnswered before commands others y → (given ≡ others) × (x ≡ y)
   one_list before x y [] [] [] h k = (refl, h ∙ sym k)
-  one_list before x y (c ∷ commands) (a ∷ as) (b ∷ bs) h k =
+  one_list before x y (c ∷ commands) (a ∷ given) (b ∷ others) h k =
       let one = one_answer before h.0 k.0 c a b h.1 k.1 in
-      let more = one_list k.0 x y commands as bs (subst (λ n. AreAnswered n commands as x) one.1 h.2) k.2 in
+      let more = one_list k.0 x y commands given others (subst (λ n. AreAnswered n commands given x) one.1 h.2) k.2 in
       let heads : a ≡ b = one.0 in
-      let tails : as ≡ bs = more.0 in
-      (ap (λ t. a ∷ t) tails ∙ ap (λ t. t ∷ bs) heads, more.1)
-  one_list before x y [] (a ∷ as) bs h k = absurd h
-  one_list before x y [] [] (b ∷ bs) h k = absurd k
-  one_list before x y (c ∷ commands) [] bs h k = absurd h
-  one_list before x y (c ∷ commands) (a ∷ as) [] h k = absurd k
+      let tails : given ≡ others = more.0 in
+      (ap (λ t. a ∷ t) tails ∙ ap (λ t. t ∷ others) heads, more.1)
+  one_list before x y [] (a ∷ given) others h k = absurd h
+  one_list before x y [] [] (b ∷ others) h k = absurd k
+  one_list before x y (c ∷ commands) [] others h k = absurd h
+  one_list before x y (c ∷ commands) (a ∷ given) [] h k = absurd k
