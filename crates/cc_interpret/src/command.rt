@@ -30,7 +30,7 @@ fn outcome_of(ended: Result<Ending, NoMemory>) -> Outcome
         Ok(Ending::Undefined) => Outcome::Undefined,
         Ok(Ending::ReadFault) => Outcome::ReadFault,
         Ok(Ending::WriteFault) => Outcome::WriteFault,
-        Err(NoMemory) => Outcome::NoMemory,
+        Err(_) => Outcome::NoMemory,
     }
 }
 
