@@ -1,6 +1,6 @@
 -- The leaves of a type are in ascending order of offset.
 use Rattle.std.proofs.Common.{◌≡◌, ℕ, ◌+◌, ◌<◌, ◌≤◌, suc, List, [], ◌∷◌, refl, inl, inr, arith}
-use Rattle.std.specs.Prelude.{nat_le, ◌&&◌, true, IsTrue}
+use Rattle.std.specs.Prelude.{true, IsTrue}
 use Rattle.std.proofs.lemmas.Bool.Decides.{nat_tests}
 use Rattle.val_core.specs.declared.leaf.Leaf.{Leaf}
 use Rattle.c_type.specs.LayoutLaws.{IsWidth, AreInOrder}

@@ -1,7 +1,7 @@
 -- One more variable among those of a function.
 use Rattle.std.proofs.Common.{◌≡◌, ℕ, zero, suc, ◌+◌, ◌<◌, ◌≤◌, ◌⊎◌, inl, inr, List, [], ◌∷◌, ◌++◌, map, length, take, get_or, refl, sym, ap, ap₂, ◌∙◌, subst, arith}
-use Rattle.std.specs.Prelude.{Bool, true, false, slice_get, Option, None, Some, unwrap_or}
-use Rattle.std.specs.List.{filter, count_by}
+use Rattle.std.specs.Prelude.{Bool, slice_get, Option, Some, unwrap_or}
+use Rattle.std.specs.List.{filter}
 use Rattle.std.proofs.lemmas.Bool.{cases_lt}
 use Rattle.std.proofs.lemmas.List.{take_more, map-append, length-map, length-take, length-append}
 use Rattle.std.proofs.lemmas.List.Elements.{filter-append}

@@ -1,3 +1,4 @@
+-- The store holds the blocks of the globals that were passed.
 use Rattle.std.proofs.Common.{take}
 use Rattle.c_interp_layout.specs.Starts.{globals_in, HoldsGlobals}
 use Rattle.c_interp_layout.proofs.globals.blocks.Given as goal

@@ -1,3 +1,4 @@
+-- What was skipped is not written at the offset or after it.
 use Rattle.std.proofs.Common.{◌≡◌, ◌≤◌, ◌-◌, ℕ, length, drop}
 use Rattle.val_core.specs.declared.values.Value.{Value}
 use Rattle.c_mean.specs.Run.{leaf_value}

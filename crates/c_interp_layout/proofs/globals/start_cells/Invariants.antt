@@ -1,3 +1,4 @@
+-- The cells are those of the leaves that were passed; what was skipped ends before the leaves that are left.
 use Rattle.std.proofs.Common.{◌≡◌, ◌≤◌, length, map, take, drop}
 use Rattle.c_interp_layout.specs.Starts.{globals_in, are_written, start_cell}
 use Rattle.c_interp_layout.proofs.Cells.{AgreesFrom}

@@ -1,4 +1,4 @@
-use Rattle.std.proofs.Common.{◌≡◌, suc, drop, sym, ap, ◌∙◌, subst}
+use Rattle.std.proofs.Common.{suc, drop, sym, ap, ◌∙◌, subst}
 use Rattle.std.specs.Prelude.{List}
 use Rattle.c_typed.specs.Typed.{WrittenTree}
 use Rattle.c_typed.specs.WellTyped.{WrittenFits}

@@ -1,3 +1,4 @@
+-- The shapes and numbers are those of the variables that were passed.
 use Rattle.std.proofs.Common.{◌≡◌, length, take}
 use Rattle.c_mean.specs.Run.{objects_of}
 use Rattle.c_interp_store.specs.Blocks.{shapes_of}

@@ -1,3 +1,4 @@
+-- The functions that were passed have their layouts.
 use Rattle.c_interp_layout.specs.Laid.{AreLayoutsTo}
 use Rattle.c_interp_layout.proofs.layout.function_layouts.Given as goal
 

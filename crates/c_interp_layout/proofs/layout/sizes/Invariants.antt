@@ -1,3 +1,4 @@
+-- The sizes are those of the globals that were passed.
 use Rattle.std.proofs.Common.{◌≡◌, map, take}
 use Rattle.c_type.specs.Layout.{size}
 use Rattle.c_typed.specs.Typed.{GlobalTree}
