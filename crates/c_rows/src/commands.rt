@@ -40,6 +40,17 @@ fn say_one(out: &mut String, command: Command<'_>) -> Result<(), NoMemory> {
         Command::Check { source, log, image } => {
             write!(out, "check {source} by {log} for {image}\n")?
         }
+        Command::Session {
+            source,
+            image,
+            recipe,
+            workers,
+        } => {
+            write!(
+                out,
+                "edit {source} to {image} workers {workers} recipe {recipe}\n"
+            )?
+        }
     }
     Ok(())
 }

@@ -6,7 +6,7 @@ ghost use Rattle.limits.specs.Limits.{most_workers};
 ghost use Rattle.clap.specs.Words.{app_of, first_of, found_of, rows_of, shape_of, subcommand_rows_of};
 ghost use Rattle.clap.specs.declared.builder.command.Command.TheViews.{out-Command as fields_of};
 ghost use Rattle.cc_command.specs.Arguments.{rvcc, shape_of_form};
-ghost use Rattle.cc_command.specs.Command.{command_of, build_form, check_form, forms, generate_form, recipe_option, run_form, steps_option, workers_option};
+ghost use Rattle.cc_command.specs.Command.{command_of, build_form, check_form, forms, generate_form, recipe_option, run_form, session_form, steps_option, workers_option};
 ghost use Rattle.cc_command.specs.Forms.{form_named, number, text, value_or_default};
 ghost use Rattle.cc_command.specs.Reading.{found_by, read_by, read_command};
 ghost use Rattle.cc_command.specs.PlainCommand.{plain_command, HasWorkers};
@@ -55,6 +55,15 @@ pub enum Command<'a> {
         log: &'a str,
         image: &'a str,
     },
+    /// `session IN OUT [--recipe LIST] [--workers N]`: edit the source named IN as the input says,
+    /// function by function, and write each image that it asks for to the file named OUT, under the
+    /// recipe LIST and by N workers, as of a build.
+    Session {
+        source: &'a str,
+        image: &'a str,
+        recipe: &'a str,
+        workers: u32,
+    },
 }
 
 fn build_arguments<'a>(alloc: Global) -> Result<Reader<'a>, AllocError>
@@ -94,6 +103,16 @@ fn check_arguments<'a>(alloc: Global) -> Result<Reader<'a>, AllocError>
     with_required(alloc, command, "IMG")
 }
 
+fn session_arguments<'a>(alloc: Global) -> Result<Reader<'a>, AllocError>
+    ensures shape { IfOk result (λ c. shape_of c ≡ shape_of_form session_form) }
+    ensures globals { IfOk result (λ c. (fields_of c).has_globals ≡ false) }
+{
+    let command = with_required(alloc, Reader::new(alloc, "session"), "IN")?;
+    let command = with_required(alloc, command, "OUT")?;
+    let command = with_option(alloc, command, "recipe")?;
+    with_option(alloc, command, "workers")
+}
+
 /// The program, of which each command is a subcommand.
 fn rvcc<'a>(alloc: Global) -> Result<Reader<'a>, AllocError>
     ensures { IfOk result (λ c. app_of c ≡ rvcc) }
@@ -102,7 +121,8 @@ fn rvcc<'a>(alloc: Global) -> Result<Reader<'a>, AllocError>
         .subcommand(build_arguments(alloc)?)?
         .subcommand(run_arguments(alloc)?)?
         .subcommand(generate_arguments(alloc)?)?
-        .subcommand(check_arguments(alloc)?)
+        .subcommand(check_arguments(alloc)?)?
+        .subcommand(session_arguments(alloc)?)
 }
 
 // The recipe of a build that names none.
@@ -191,6 +211,19 @@ fn check_in<'a>(arguments: &ArgMatches<'a>) -> Option<Command<'a>>
     })
 }
 
+fn session_in<'a>(arguments: &ArgMatches<'a>) -> Option<Command<'a>>
+    ensures command { option_map plain_command result
+        ≡ read_by session_form (rows_of (found_of arguments.now)) }
+    ensures workers { IfSome result HasWorkers }
+{
+    Some(Command::Session {
+        source: value(arguments, "IN")?,
+        image: value(arguments, "OUT")?,
+        recipe: recipe_in(arguments),
+        workers: workers_in(arguments)?,
+    })
+}
+
 /// The command of this name with these arguments.
 fn command_named<'a>(name: &str, arguments: &ArgMatches<'a>) -> Option<Command<'a>>
     ensures command { option_map plain_command result
@@ -203,6 +236,7 @@ fn command_named<'a>(name: &str, arguments: &ArgMatches<'a>) -> Option<Command<'
         "run" => run_in(arguments),
         "gen" => generate_in(arguments),
         "check" => check_in(arguments),
+        "session" => session_in(arguments),
         _ => None,
     }
 }
@@ -237,7 +271,8 @@ fn read_arguments<'a>(
 }
 
 /// The command of the arguments, the program's name first; `None` where they are no command. No
-/// arguments at all are read as the name alone. A build is by 1 to `MOST_WORKERS` workers.
+/// arguments at all are read as the name alone. A build or a session is by 1 to `MOST_WORKERS`
+/// workers.
 pub fn parse_command<'a>(
     alloc: Global,
     arguments: &'a [String],
