@@ -2,7 +2,7 @@
 use Rattle.std.proofs.Common.{◌≡◌, ◌⊎◌, ℕ, List, Option, Some, None, Ok, Err, refl, sym, ap, ◌∙◌, inl, inr, subst}
 use Rattle.std.specs.Option.{ForSome}
 use Rattle.c_typed.specs.Typed.{ProgramTree}
-use Rattle.cc_command.specs.Command.{Command, accept, build, run, generate, check}
+use Rattle.cc_command.specs.Command.{Command, accept, build, run, generate, check, session}
 use Rattle.cc_source.specs.Accepted.{Accepts}
 use Rattle.cc_io.specs.Faults.{Increased}
 use Rattle.cc_io.specs.Files.{Name, content}
@@ -13,6 +13,7 @@ use Rattle.cc_build.specs.AcceptEnds.{AcceptCause}
 use Rattle.cc_build.specs.BuildEnds.{BuildEnds}
 use Rattle.cc_outside.specs.Outside.{IfKnown, ReadFails, WriteFails, FilesSeen, Outside, StreamSeen}
 use Rattle.cc_certify.specs.CheckEnds.{CertifiedIsTold, CheckEnds}
+use Rattle.cc_script.specs.SessionEnds.{SessionEnds}
 use Rattle.cc_top.specs.Completes.{CheckCompletes, Completes, IsDone, Works}
 use Rattle.cc_top.specs.Ends.{Ends}
 use Rattle.cc_run.specs.GenerateEnds.{GenerateEnds}
@@ -21,7 +22,7 @@ use Rattle.cc_refusal.specs.Refused.{AcceptedIsNotRefused}
 use Rattle.cc_report.specs.Report.{IsReported}
 use Rattle.cc_run.specs.RunEnds.{RunEnds}
 use Rattle.cc_report.specs.declared.outcome.Outcome.{Outcome}
-use Rattle.cc_report.specs.declared.outcome.Outcome.TheVariants.{Done, ReadFault, WriteFault, Refused, BadImage, NoMemory, Exit, Stack, Budget, Stuck}
+use Rattle.cc_report.specs.declared.outcome.Outcome.TheVariants.{Done, ReadFault, WriteFault, Refused, BadImage, NoMemory, Exit, Stack, Budget, Stuck, Script}
 
 -- the status is that of the outcome, where the report was written
 pub status-is : (ended : Outcome) (said : List ℕ) (status : ℕ) (held held' : Option (List ℕ)) (faults faults' : ℕ) → IsReported ended said status held held' faults faults'
@@ -52,6 +53,26 @@ module _ (law : AcceptedIsNotRefused) where
   accept-done WriteFault input input' output output' h reads writes = absurd (writes h.2.0)
   accept-done (Refused refusal) input input' output output' h reads writes = λ text is p a. absurd (law text p refusal a (h.0 text is))
   accept-done _ input input' output output' h reads writes = absurd h
+
+  session-done : (recipe : _) (source image : Name) (ended : Outcome) (before after : Outside) → SessionEnds recipe source image ended before after
+      → (ReadFails source before.files after.files → ⊥)
+      → (WriteFails image before.files after.files → ⊥)
+      → Works before.input after.input
+      → Works before.output after.output
+      → IfKnown source before.files (λ text. (p : ProgramTree) → Accepts text p → IsDone (status_of ended) ⊎ (status_of ended ≡ 9))
+  session-done recipe source image Done before after h reads writes input output = λ files is p a. inl (inl refl)
+  session-done recipe source image NoMemory before after h reads writes input output = λ files is p a. inl (inr refl)
+  session-done recipe source image (Script number) before after h reads writes input output = λ files is p a. inr refl
+  session-done recipe source image (Refused refusal) before after h reads writes input output = λ files is p a. absurd (law (content source files) p refusal a (h.0 files is))
+  session-done recipe source image ReadFault before after h reads writes input output = elim h [
+    | inl unread ↦ absurd (reads unread.0)
+    | inr broken ↦ absurd (input broken.fails)
+  ]
+  session-done recipe source image WriteFault before after h reads writes input output = elim h [
+    | inl unsaved ↦ absurd (writes unsaved.fails)
+    | inr unsaid ↦ absurd (output unsaid.fails)
+  ]
+  session-done recipe source image _ before after h reads writes input output = absurd h
 
 generate-done : (start functions : ℕ) (out : Name) (ended : Outcome) (before after : FilesSeen) → GenerateEnds start functions out ended before after → (WriteFails out before after → ⊥)
     → IsDone (status_of ended)
@@ -103,6 +124,8 @@ module _ (law : AcceptedIsNotRefused) (told : CertifiedIsTold) {W : Type 0} (nam
   ended-completes (Some (generate start functions out)) ended said before after ws ws' h = generate-done start functions out ended before.files after.files h.0
   ended-completes (Some (run image steps)) ended said before after ws ws' h = run-done image steps ended before after h.0
   ended-completes (Some (check source log image)) ended said before after ws ws' h = check-done told source log image ended before.files after.files h.0
+  ended-completes (Some (session source image list workers)) ended said before after ws ws' h = λ recipe is.
+      session-done law recipe source image ended before after (h.0.session recipe is)
 
   pub completes : (c : Option Command) (ended : Outcome) (said : List ℕ) (before after : Outside) (ws ws' : List W) → Ends named stands_for text_of c ended said before after ws ws'
       → (status : ℕ) (held held' : Option (List ℕ)) (faults faults' : ℕ) → IsReported ended said status held held' faults faults' → (Increased faults faults' → ⊥)

@@ -4,7 +4,7 @@ use Rattle.std.specs.Option.{ForSome}
 use Rattle.g_graph.specs.declared.steps.Rule.{Rule}
 use Rattle.c_typed.specs.Typed.{ProgramTree}
 use Rattle.elf_file.specs.Loading.{Executable, loaded}
-use Rattle.cc_command.specs.Command.{Command, accept, build, run, generate, check}
+use Rattle.cc_command.specs.Command.{Command, accept, build, run, generate, check, session}
 use Rattle.cc_source.specs.Accepted.{Accepts}
 use Rattle.cc_io.specs.Faults.{Increased}
 use Rattle.cc_io.specs.Files.{Name, content}
@@ -48,6 +48,13 @@ pub record CheckCompletes (source log image : Name) (status : ℕ) (before after
       (ReadFails source before after → ⊥) → (ReadFails log before after → ⊥) → (ReadFails image before after → ⊥) →
       ForSome before.known (λ files. Certifies (content source files) (content log files) (content image files) → IsDone status)
 
+-- a session under a recipe on a known source that is accepted, which ends with 9 too
+abbrev pub SessionCompletes : (list : List ℕ) (source image : Name) (status : ℕ) (before after : Outside) → Type 0
+SessionCompletes list source image status before after =
+    (recipe : List Rule) → IsTextOf recipe list → (ReadFails source before.files after.files → ⊥) → (WriteFails image before.files after.files → ⊥) →
+    Works before.input after.input → Works before.output after.output →
+    IfKnown source before.files (λ text. (p : ProgramTree) → Accepts text p → IsDone status ⊎ (status ≡ 9))
+
 abbrev pub Completes : {W : Type 0} (named : W → List ℕ) → Option Command → (status : ℕ) → (before after : Outside) → List W → Type 0
 Completes named None status before after ws = Unit {0}
 Completes named (Some accept) status before after ws = AcceptCompletes status before.input after.input before.output after.output
@@ -56,3 +63,4 @@ Completes named (Some (build source image list workers name)) status before afte
 Completes named (Some (generate start functions out)) status before after ws = GenerateCompletes out status before.files after.files
 Completes named (Some (run image steps)) status before after ws = RunCompletes image status before after
 Completes named (Some (check source log image)) status before after ws = CheckCompletes source log image status before.files after.files
+Completes named (Some (session source image list workers)) status before after ws = SessionCompletes list source image status before after

@@ -22,6 +22,7 @@ use cc_command::{Command, parse_command};
 use cc_io::{Files, Sink, Source};
 use cc_report::{Ending, Outcome, tell};
 use cc_run::{generated, run};
+use cc_script::session;
 use cc_watch::Watcher;
 use std::alloc::Global;
 use std::sync::Wait;
@@ -156,5 +157,13 @@ fn carry_out<H: Threads + Wait + Sync, F: Files, I: Source, O: Sink, G: Gate>(
         Command::Check { source, log, image } => {
             Ending::Line(check(alloc, files, source, log, image))
         }
+        Command::Session {
+            source,
+            image,
+            recipe,
+            workers,
+        } => Ending::Line(session(
+            rt, alloc, files, input, output, source, image, recipe, workers, gate,
+        )),
     }
 }
