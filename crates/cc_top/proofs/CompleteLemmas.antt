@@ -66,9 +66,9 @@ module _ (law : AcceptedIsNotRefused) where
   session-done recipe source image (Refused refusal) before after h reads writes input output = λ files is p a. absurd (law (content source files) p refusal a (h.0 files is))
   session-done recipe source image ReadFault before after h reads writes input output = elim h [
     | inl unread ↦ absurd (reads unread.0)
-    | inr broken ↦ absurd (input broken.fails)
+    | inr broken ↦ absurd (input broken.so.fails)
   ]
-  session-done recipe source image WriteFault before after h reads writes input output = elim h [
+  session-done recipe source image WriteFault before after h reads writes input output = elim h.so [
     | inl unsaved ↦ absurd (writes unsaved.fails)
     | inr unsaid ↦ absurd (output unsaid.fails)
   ]
@@ -125,7 +125,7 @@ module _ (law : AcceptedIsNotRefused) (told : CertifiedIsTold) {W : Type 0} (nam
   ended-completes (Some (run image steps)) ended said before after ws ws' h = run-done image steps ended before after h.0
   ended-completes (Some (check source log image)) ended said before after ws ws' h = check-done told source log image ended before.files after.files h.0
   ended-completes (Some (session source image list workers)) ended said before after ws ws' h = λ recipe is.
-      session-done law recipe source image ended before after (h.0.session recipe is)
+      session-done law recipe source image ended before after (h.0.session recipe (record { written = is.written; short = is.short }))
 
   pub completes : (c : Option Command) (ended : Outcome) (said : List ℕ) (before after : Outside) (ws ws' : List W) → Ends named stands_for text_of c ended said before after ws ws'
       → (status : ℕ) (held held' : Option (List ℕ)) (faults faults' : ℕ) → IsReported ended said status held held' faults faults' → (Increased faults faults' → ⊥)
