@@ -1,0 +1,15 @@
+//! Laws of sessions, each the contract of a function that does nothing.
+
+ghost use Rattle.cc_script.specs.Laws.{SessionsLeaveTheSame};
+
+/// Two sessions that are done, on the same known files, input and output, leave the same files and
+/// output, whatever else they were asked.
+pub fn sessions_leave_the_same()
+    ensures { SessionsLeaveTheSame }
+{
+    cc_source::laws::the_program_is_determined();
+    cc_compile::laws::the_image_is_determined();
+    cc_refusal::laws::a_source_has_one_refusal();
+    cc_refusal::laws::accepted_sources_are_not_refused();
+    g_pass_order::laws::orders_are_unique();
+}
