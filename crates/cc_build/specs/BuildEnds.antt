@@ -8,7 +8,7 @@ use Rattle.g_pass.specs.Recipe.{recipe_text}
 use Rattle.cc_source.specs.Accepted.{Accepts}
 use Rattle.cc_compile.specs.Compiled.{IsImageUnder, rows_of}
 use Rattle.cc_emit_def.specs.Image.{lambdas_of}
-use Rattle.cc_compile_keeps.specs.Meaning.{KeepsMeaning}
+use Rattle.cc_source_keeps.specs.Meaning.{KeepsMeaning}
 use Rattle.cc_watch.specs.Rows.{PlainRow}
 use Rattle.cc_io.specs.Files.{Name, content}
 use Rattle.cc_outside.specs.Outside.{FilesSeen, ReadFails, WriteFails, Writes, Unchanged, WritesPrefix, IfKnown}

@@ -5,7 +5,7 @@ use Rattle.c_typed.specs.Typed.{ProgramTree}
 use Rattle.g_graph.specs.declared.steps.Rule.{Rule}
 use Rattle.cc_source.specs.Accepted.{Accepts}
 use Rattle.cc_compile.specs.Compiled.{IsImageUnder, rows_of}
-use Rattle.cc_compile_keeps.specs.Meaning.{KeepsMeaning}
+use Rattle.cc_source_keeps.specs.Meaning.{KeepsMeaning}
 use Rattle.cc_emit_def.specs.Image.{lambdas_of}
 use Rattle.cc_io.specs.Files.{Name, FileSet, content}
 use Rattle.cc_watch.specs.Rows.{PlainRow}

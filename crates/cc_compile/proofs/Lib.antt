@@ -1,3 +1,2 @@
-mod Small
 mod Recipes
 mod MadeRows

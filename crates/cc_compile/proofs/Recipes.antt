@@ -3,21 +3,17 @@ use Rattle.std.proofs.Common.{◌≡◌, List, [], ◌∷◌, map, refl, sym, ap
 use Rattle.g_graph.specs.Plain.{PlainLambda}
 use Rattle.g_graph.specs.Program.{lambda_values}
 use Rattle.g_build_def.specs.Functions.{graph, omega}
-use Rattle.g_build_laws.specs.BuiltLaws.{WellTypedAreBuilt, SmallAreWithinLimits}
+use Rattle.g_build_laws.specs.BuiltLaws.{WellTypedAreBuilt}
 use Rattle.g_pass_def.specs.Laws.{AnswersAreUnique, UnsweptAnswersAreLambdas}
 use Rattle.g_pass.specs.Sweep.{rules}
-use Rattle.g_pass_keeps.specs.Laws.{AnswersFitImages}
+use Rattle.g_pass_keeps.specs.Laws.{AnswersKeepLists}
 use Rattle.cc_emit_def.specs.Image.{file_of_program, lambdas_of}
-use Rattle.cc_compile.specs.Compiled.{rows_of, AnswersCanBeEmitted, OneImage, OneListOfRows, ProgramsCanBeEmitted, UnsweptImage}
-use Rattle.cc_compile.proofs.Small.{unlimited_are_small, graph_may_grow}
+use Rattle.cc_source_keeps.specs.Laws.{KeptListsCanBeEmitted}
+use Rattle.cc_compile.specs.Compiled.{rows_of, AnswersCanBeEmitted, OneImage, OneListOfRows, UnsweptImage}
 
-pub programs_can_be_emitted : WellTypedAreBuilt → SmallAreWithinLimits → ProgramsCanBeEmitted
-programs_can_be_emitted built within p typed checked few = record { program = built p typed; limits = within p (unlimited_are_small p checked few) }
-
-pub answers_can_be_emitted : WellTypedAreBuilt → SmallAreWithinLimits → AnswersFitImages → AnswersCanBeEmitted
-answers_can_be_emitted built within fit p typed checked few recipe answers made =
-    let can = fit (omega p) recipe (graph p) answers made (built p typed) (within p (unlimited_are_small p checked few)) (graph_may_grow p few) in
-    record { program = can.0; limits = can.1 }
+pub answers_can_be_emitted : WellTypedAreBuilt → KeptListsCanBeEmitted → AnswersKeepLists → AnswersCanBeEmitted
+answers_can_be_emitted built can keep p typed checked few recipe answers made =
+    can p typed checked few (lambdas_of answers) (keep recipe (graph p) answers (built p typed).complete made)
 
 pub one_image : AnswersAreUnique → OneImage
 one_image unique recipe p bytes others a b =

@@ -8,7 +8,6 @@ use Rattle.g_graph.specs.Plain.{PlainOptimised}
 use Rattle.g_graph.specs.Program.{lambda_values}
 use Rattle.g_build_def.specs.Functions.{graph, omega}
 use Rattle.g_build.specs.Passed.{limit_passed}
-use Rattle.g_build_laws.specs.BuiltLaws.{IsSmall}
 use Rattle.g_pass_def.specs.Answers.{AreAnswers}
 use Rattle.g_pass.specs.Sweep.{rules}
 use Rattle.cc_emit_def.specs.Image.{file_of_program, lambdas_of, CanEmit}
@@ -38,15 +37,7 @@ IsCompiledUnder recipe p bytes rows = (image : IsImageUnder recipe p bytes) × (
 
 -- ---- laws
 
--- A program that passes no limit is small.
-abbrev pub UnlimitedAreSmall : Type 0
-UnlimitedAreSmall = (p : ProgramTree) → above_limits p ≡ None → limit_passed p.functions ≡ None → IsSmall p
-
--- The lambdas of such a program can be put in an image,
-abbrev pub ProgramsCanBeEmitted : Type 0
-ProgramsCanBeEmitted = (p : ProgramTree) → IsWellTyped p → above_limits p ≡ None → limit_passed p.functions ≡ None → CanEmit (omega p) (graph p)
-
--- and so can what a recipe makes of them.
+-- What a recipe makes of the lambdas of a program that passes no limit can be put in an image.
 abbrev pub AnswersCanBeEmitted : Type 0
 AnswersCanBeEmitted =
     (p : ProgramTree) → IsWellTyped p → above_limits p ≡ None → limit_passed p.functions ≡ None →

@@ -1,26 +1,13 @@
 //! Laws of the composition, each the contract of a function that does nothing.
 
-ghost use Rattle.cc_compile.specs.Compiled.{AnswersCanBeEmitted, OneImage, OneListOfRows, ProgramsCanBeEmitted, UnlimitedAreSmall, UnsweptImage};
-
-/// A program that passes no limit is small enough for an image.
-pub fn unlimited_are_small()
-    ensures { UnlimitedAreSmall }
-{}
-
-/// The lambdas of a well-typed program that passes no limit can be put in an image.
-pub fn programs_can_be_emitted()
-    ensures { ProgramsCanBeEmitted }
-{
-    g_build_laws::laws::well_typed_are_built();
-    g_build_laws::laws::small_are_within_limits();
-}
+ghost use Rattle.cc_compile.specs.Compiled.{AnswersCanBeEmitted, OneImage, OneListOfRows, UnsweptImage};
 
 /// What a recipe makes of the lambdas of a program that passes no limit can be put in an image.
 pub fn answers_can_be_emitted()
     ensures { AnswersCanBeEmitted }
 {
     g_build_laws::laws::well_typed_are_built();
-    g_build_laws::laws::small_are_within_limits();
+    cc_source_keeps::laws::programs_can_be_emitted();
     g_pass_keeps::laws::answers_keep_lists();
 }
 

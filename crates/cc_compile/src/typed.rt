@@ -11,11 +11,12 @@ ghost use Rattle.g_build.specs.Passed.{limit_passed};
 ghost use Rattle.cc_emit_def.specs.Image.{file_of_program, lambdas_of, CanEmit};
 ghost use Rattle.cc_compile.specs.Compiled.{rows_of, IsCompiledUnder};
 
-use crate::laws::{answers_can_be_emitted, programs_can_be_emitted};
+use crate::laws::answers_can_be_emitted;
 use crate::rows::rows_of;
 use board_work::Gate;
 use c_typed::Typed;
 use cc_emit::emit;
+use cc_source_keeps::laws::{programs_can_be_emitted, unlimited_are_small};
 use cc_watch::Row;
 use g_build::{BuildFault, build};
 use g_graph::{Omega, Optimised};
@@ -85,6 +86,7 @@ fn compiled_of(
         IsCompiledUnder recipe.now typed.now c.image.items c.rows.items) }
     ensures functions { IfOk result (λ c. c.functions ≡ length typed.now.functions) }
 {
+    unlimited_are_small();
     programs_can_be_emitted();
     answers_can_be_emitted();
     let all = answers(alloc, &program.lambdas, recipe)?;
@@ -111,6 +113,7 @@ fn compiled_by_workers<H: Threads + Wait + Sync, G: Gate>(
         IsCompiledUnder recipe.now typed.now c.image.items c.rows.items) }
     ensures functions { IfOk result (λ c. c.functions ≡ length typed.now.functions) }
 {
+    unlimited_are_small();
     programs_can_be_emitted();
     answers_can_be_emitted();
     let all = answers_by_workers(rt, alloc, &program.lambdas, recipe, workers, gate)?;

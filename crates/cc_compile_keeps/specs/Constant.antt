@@ -3,7 +3,8 @@ use Rattle.std.specs.Prelude.{ℕ, List, [], ◌∷◌, codes}
 use Rattle.c_type.specs.Trees.{scalar_type}
 use Rattle.c_type.specs.declared.scalar.Scalar.TheVariants.{Int}
 use Rattle.c_typed.specs.Typed.{FunctionTree, ProgramTree, expr, constant, return_value, stmt_then, no_items}
-use Rattle.cc_compile.specs.Compiled.{image_of}
+use Rattle.g_build_def.specs.Functions.{graph, omega}
+use Rattle.cc_emit_def.specs.Image.{file_of_program}
 
 -- `int main(void) { return N; }`, N being an `int`, with the name and the definition at these offsets
 abbrev pub constant_function : (at starts ends n : ℕ) → FunctionTree
@@ -24,4 +25,4 @@ constant_program at starts ends n =
 
 -- its image, wherever it stands in the source
 abbrev pub image_of_constant : (at starts ends n : ℕ) → List ℕ
-image_of_constant at starts ends n = image_of (constant_program at starts ends n)
+image_of_constant at starts ends n = file_of_program (omega (constant_program at starts ends n)) (graph (constant_program at starts ends n))

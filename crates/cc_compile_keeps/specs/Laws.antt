@@ -11,19 +11,18 @@ use Rattle.g_pass.specs.Sweep.{rules}
 use Rattle.cc_emit_def.specs.Image.{file_of_program, lambdas_of}
 use Rattle.cc_source_laws.specs.SourceLaws.{AreBytes}
 use Rattle.cc_source.specs.Accepted.{Accepts}
-use Rattle.cc_compile.specs.Compiled.{image_of, IsImageUnder}
-use Rattle.cc_compile_keeps.specs.Meaning.{KeepsMeaning}
+use Rattle.cc_source_keeps.specs.Meaning.{KeepsMeaning}
 
 -- The image of a source that is accepted does what its program does.
 abbrev pub AcceptedSourcesKeepMeaning : Type 0
 AcceptedSourcesKeepMeaning =
-    (source : List ℕ) → AreBytes source → (p : ProgramTree) → Accepts source p → KeepsMeaning p (graph p) (image_of p)
+    (source : List ℕ) → AreBytes source → (p : ProgramTree) → Accepts source p → KeepsMeaning p (graph p) (file_of_program (omega p) (graph p))
 
 -- And so does its image under a recipe, with what the recipe makes of the lambdas.
 abbrev pub RecipesKeepMeaning : Type 0
 RecipesKeepMeaning =
-    (source : List ℕ) → AreBytes source → (p : ProgramTree) → Accepts source p → (recipe : List Rule) (bytes : List ℕ) (image : IsImageUnder recipe p bytes) →
-    KeepsMeaning p (lambdas_of image.answers) bytes
+    (source : List ℕ) → AreBytes source → (p : ProgramTree) → Accepts source p → (recipe : List Rule) (answers : List PlainOptimised) →
+    AreAnswers rules recipe (graph p) answers → KeepsMeaning p (lambdas_of answers) (file_of_program (omega p) (lambdas_of answers))
 
 -- This holds of each list that has the answers of a set of functions, and the built lambdas of the others: for every source
 -- that is accepted, every recipe, and every set that has what each of its members calls in other units.

@@ -1,4 +1,3 @@
-pub mod Meaning
 pub mod Laws
 pub mod Constant
 pub mod ConstantExits

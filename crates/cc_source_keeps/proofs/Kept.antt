@@ -3,7 +3,7 @@ use Rattle.g_build_def.specs.Functions.{graph, omega}
 use Rattle.g_build_laws.specs.BuiltLaws.{WellTypedAreBuilt, SmallAreWithinLimits}
 use Rattle.g_pass_def.specs.Laws.{KeptListsFitImages}
 use Rattle.cc_source_keeps.specs.Laws.{KeptListsCanBeEmitted, ProgramsCanBeEmitted}
-use Rattle.cc_source_keeps.proofs.Small.{unlimited_are_small, graph_may_grow}
+use Rattle.cc_source_keeps.proofs.lemmas.Small.{unlimited_are_small, graph_may_grow}
 
 pub programs_can_be_emitted : WellTypedAreBuilt → SmallAreWithinLimits → ProgramsCanBeEmitted
 programs_can_be_emitted built within p typed checked few = record { program = built p typed; limits = within p (unlimited_are_small p checked few) }

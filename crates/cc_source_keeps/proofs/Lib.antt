@@ -1,4 +1,4 @@
-mod Small
+pub mod lemmas
 mod Programs
 mod Kept
 mod Calls

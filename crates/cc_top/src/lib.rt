@@ -41,10 +41,11 @@ use std::thread::Threads;
 /// [--steps N]` runs the executable IMG for at most N instructions, from `input` to `output`. `gen
 /// NUMBER COUNT OUT` writes the generated program of COUNT functions, 1 to
 /// `MOST_GENERATED_FUNCTIONS`, whose draws begin with NUMBER, 0 to 4294967295, to the file OUT.
-/// `check IN LOG IMG` says whether the log in the file LOG certifies the image in the file IMG as one
-/// of the source IN: whether the log's steps, each done at its node, lead from the functions of IN to
-/// those of IMG, byte for byte. Where they do, IMG does what the source does, as OUT of a build does,
-/// whoever wrote LOG and IMG. Not every image that does so has such a log. No file changes.
+/// `check IN LOG IMG` says whether the log in the file LOG certifies the image in the file IMG as
+/// one of the source IN: whether the log's steps, each done at its node, lead from the functions of
+/// IN to those of IMG, byte for byte. Where they do, IMG does what the source does, as OUT of a
+/// build does, whoever wrote LOG and IMG. Not every image that does so has such a log. No file
+/// changes.
 /// Without arguments the source on `input` is compiled and the line `accepted F` written on
 /// `output`, F being the number of functions that it defines; no file changes. What a user reads of
 /// the end is written on `report`: on status 0 of `build` the text of the report that is asked for,
@@ -60,8 +61,8 @@ use std::thread::Threads;
 /// it makes a function. OUT is the same for every N. A call may wait, and what is said here holds
 /// where it returns. The statuses:
 ///
-/// - 0: `build` or `gen` wrote OUT, `accepted F` was written, the program that `run` ran has exited,
-///   and the line has its exit status, or LOG certifies IMG, and the line is `yes`.
+/// - 0: `build` or `gen` wrote OUT, `accepted F` was written, the program that `run` ran has
+///   exited, and the line has its exit status, or LOG certifies IMG, and the line is `yes`.
 /// - 1: the arguments are no command, LIST is no recipe, or no watcher has the name NAME. Nothing
 ///   has changed.
 /// - 2: a file or the input was not read, since a call failed. No file has changed.

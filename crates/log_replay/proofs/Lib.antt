@@ -2,4 +2,5 @@ mod Stops
 mod FirstFaults
 mod Taken
 mod Made
+mod Followed
 mod RightOrFaulty

@@ -1,6 +1,9 @@
 -- Laws of logs whose steps are replayed.
-use Rattle.std.specs.Prelude.{◌≡◌, ◌≢◌, ◌⊎◌, List}
+use Rattle.std.specs.Prelude.{◌≡◌, ◌≢◌, ◌⊎◌, List, [], Some}
+use Rattle.g_graph.specs.declared.steps.Rule.{Rule}
 use Rattle.g_graph.specs.Plain.{PlainLambda}
+use Rattle.g_pass_def.specs.Sweep.{Swept, sweep, replayed}
+use Rattle.g_pass.specs.Sweep.{rules}
 use Rattle.log_check.specs.Log.{PlainPart}
 use Rattle.log_replay.specs.Right.{AreRight}
 use Rattle.log_replay.specs.Fault.{IsReplayFault}
@@ -24,3 +27,12 @@ RightAreUnique = (ls : List PlainLambda) (log : List PlainPart) (ks js : List Pl
 abbrev pub RightOrFaulty : Type 0
 RightOrFaulty =
     (ls : List PlainLambda) (log : List PlainPart) → ((ks : List PlainLambda) × AreRight ls log ks) ⊎ ((e : ReplayFault) × (e ≢ NoMemory) × IsReplayFault ls log e)
+
+-- ---- sweeps
+
+abbrev pub swept_once : (callees : List PlainLambda) → Rule → PlainLambda → Swept
+swept_once callees r l = sweep rules callees (record { lambda = l; steps = [] }) r
+
+-- A sweep makes of a lambda what its steps make of it.
+abbrev pub SweepsReplay : Type 0
+SweepsReplay = (callees : List PlainLambda) (r : Rule) (l : PlainLambda) → replayed rules callees (swept_once callees r l).steps l ≡ Some (swept_once callees r l).lambda

@@ -1,8 +1,8 @@
 //! Laws of logs whose steps are replayed, each the contract of a function that does nothing.
 
-ghost use Rattle.log_replay.specs.Laws.{OneReplayFault, RightAreUnique, RightHaveNoFault, RightOrFaulty};
+ghost use Rattle.log_replay.specs.Laws.{OneReplayFault, RightAreUnique, RightHaveNoFault, RightOrFaulty, SweepsReplay};
 
-use g_pass_def::laws::replayed_keep_lists;
+use g_pass_def::laws::{recipes_are_steps, replayed_keep_lists};
 use g_pass_order::laws::orders_are_unique;
 use g_pass_order_laws::laws::orders_exist;
 
@@ -17,4 +17,11 @@ pub fn faults_are_first()
     orders_are_unique();
     orders_exist();
     replayed_keep_lists();
+}
+
+/// A sweep makes of a lambda what its steps make of it, one after the other.
+pub fn sweeps_replay()
+    ensures { SweepsReplay }
+{
+    recipes_are_steps();
 }

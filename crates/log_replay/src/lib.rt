@@ -10,6 +10,7 @@ mod function;
 pub mod laws;
 mod ranks;
 mod replayed;
+mod series;
 
 pub use fault::ReplayFault;
 pub use ranks::replay;

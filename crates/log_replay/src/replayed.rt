@@ -9,8 +9,8 @@ ghost use Rattle.g_pass.specs.Sweep.{rules};
 ghost use Rattle.log_replay.specs.Fault.{StepsFail};
 
 use crate::fault::ReplayFault;
+use crate::series::made_series;
 use g_graph::{Lambda, Optimised, Step, copy_of};
-use g_pass::step;
 use std::alloc::Global;
 use std::sync::Arc;
 
@@ -33,12 +33,15 @@ pub fn replayed(
         StepsFail (lambdas_of (map arc_value callees.now)) steps.now lambda.now line e) }
 {
     let mut changed = copy_of(alloc, lambda)?;
-    for index in 0..steps.len() {
-        if !step(alloc, steps[index], &mut changed, callees)? {
-            drop(changed);
-            return Err(ReplayFault::BadStep {
-                line: line + 1 + index as u32,
-            });
+    let mut made = 0;
+    while made < steps.len() {
+        let before = line + made as u32;
+        match made_series(alloc, &mut changed, callees, &steps[made..], before) {
+            Ok(count) => made += count,
+            Err(fault) => {
+                drop(changed);
+                return Err(fault);
+            }
         }
     }
     Ok(changed)

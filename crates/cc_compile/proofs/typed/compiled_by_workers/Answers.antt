@@ -9,29 +9,28 @@ use Rattle.g_pass_def.specs.Answers.{AreAnswers}
 use Rattle.g_pass.specs.Sweep.{rules}
 use Rattle.cc_emit_def.specs.Image.{file_of_program, lambdas_of, CanEmit}
 use Rattle.cc_compile.specs.Compiled.{IsCompiledUnder}
-use Rattle.cc_compile.proofs.Small.{unlimited_are_small}
 use Rattle.cc_compile.proofs.typed.compiled_by_workers.Goals as goal
 
 pub answers_by_workers-requires-clause-few : goal.answers_by_workers-requires-clause-few
 answers_by_workers-requires-clause-few g c κs within =
     let lambdas = c.deref.ensures.value ∙ ap (λ (o : PlainOmega). o.lambdas) (c.program.view_is ∙ c.requires.graph) in
-    let can = c.programs_can_be_emitted.ensures c.args.typed.now c.requires.typed c.requires.limits c.requires.values in
+    let can = c.programs_can_be_emitted.ensures.graphs c.args.typed.now c.requires.typed c.requires.limits c.requires.values in
     subst (λ (ls : List PlainLambda). length ls ≤ most_functions) (sym lambdas) can.limits.functions
 
 pub answers_by_workers-requires-clause-complete : goal.answers_by_workers-requires-clause-complete
 answers_by_workers-requires-clause-complete g c κs within =
     let lambdas = c.deref.ensures.value ∙ ap (λ (o : PlainOmega). o.lambdas) (c.program.view_is ∙ c.requires.graph) in
-    let can = c.programs_can_be_emitted.ensures c.args.typed.now c.requires.typed c.requires.limits c.requires.values in
+    let can = c.programs_can_be_emitted.ensures.graphs c.args.typed.now c.requires.typed c.requires.limits c.requires.values in
     subst IsComplete (sym lambdas) can.program.complete
 
 pub answers_by_workers-requires-clause-small : goal.answers_by_workers-requires-clause-small
 answers_by_workers-requires-clause-small g c κs within f l e =
     let lambdas = c.deref.ensures.value ∙ ap (λ (o : PlainOmega). o.lambdas) (c.program.view_is ∙ c.requires.graph) in
-    let can = c.programs_can_be_emitted.ensures c.args.typed.now c.requires.typed c.requires.limits c.requires.values in
+    let can = c.programs_can_be_emitted.ensures.graphs c.args.typed.now c.requires.typed c.requires.limits c.requires.values in
     omega (arith, (can.limits.each f l (ap (λ (ls : List PlainLambda). slice_get ls f) (sym lambdas) ∙ e)).values)
 
 pub compiled_with-requires-clause-few : goal.compiled_with-requires-clause-few
-compiled_with-requires-clause-few g c = (unlimited_are_small c.args.typed.now c.requires.limits c.requires.values).functions
+compiled_with-requires-clause-few g c = (c.unlimited_are_small.ensures c.args.typed.now c.requires.limits c.requires.values).functions
 
 pub compiled_with-requires-clause-image : goal.compiled_with-requires-clause-image
 compiled_with-requires-clause-image g c =

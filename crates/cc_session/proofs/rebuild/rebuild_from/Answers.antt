@@ -15,7 +15,7 @@ remake-requires-clause-small g c κs within f l e =
     let p = c.args.now.now.program in
     let typed = c.typed-typed.ensures in
     let lambdas = c.deref.ensures.value ∙ ap (λ (o : PlainOmega). o.lambdas) (c.graph.view_is ∙ (c.in_ok-graph.ensures ∙ ap built.omega typed.same)) in
-    let can = c.programs_can_be_emitted.ensures p typed.typed typed.limits typed.accepted.within in
+    let can = c.programs_can_be_emitted.ensures.graphs p typed.typed typed.limits typed.accepted.within in
     small p can f l (ap (λ (ls : List PlainLambda). slice_get ls f) (sym lambdas) ∙ e)
 
 pub file_with-requires : goal.file_with-requires

@@ -1,5 +1,0 @@
-use Rattle.cc_compile.proofs.Small.{unlimited_are_small}
-use Rattle.cc_compile.proofs.laws.unlimited_are_small.Goals as goal
-
-pub returns : goal.returns
-returns c = unlimited_are_small

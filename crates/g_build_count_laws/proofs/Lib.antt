@@ -1,0 +1,4 @@
+mod Counted
+mod Expressions
+mod Statements
+mod Functions

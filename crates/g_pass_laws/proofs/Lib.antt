@@ -1,0 +1,7 @@
+mod Sized
+mod Pulled
+mod Unrolled
+mod Inverted
+mod Numbers
+mod Sweeps
+mod Given
