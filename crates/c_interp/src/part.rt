@@ -1,0 +1,93 @@
+//! Tasks of parts of a program that become the tasks of their own parts.
+
+ghost use Rattle.std.specs.Prelude.{◌≡◌, ℕ};
+ghost use Rattle.c_typed.specs.Typed.{ProgramTree, exprs_of};
+ghost use Rattle.c_typed.specs.StmtViews.{groups_of, elements_of};
+ghost use Rattle.c_interp_def.specs.declared.task.Flow.TheVariants.{Normal};
+ghost use Rattle.c_interp_def.specs.ExprTasks as task;
+ghost use Rattle.c_interp_def.specs.ExprTasks.{expr_task_run};
+ghost use Rattle.c_interp_def.specs.StmtTasks as stmt;
+ghost use Rattle.c_interp_def.specs.StmtTasks.{stmt_task_run};
+ghost use Rattle.c_interp.specs.Steps.{IsStep};
+
+use crate::machine::Machine;
+use crate::stop::Stop;
+use c_typed::{Element, Group, TExpr, TPlace, TStmt};
+
+/// An expression.
+pub(crate) fn evaluate<'a>(machine: &mut Machine<'a>, e: &'a TExpr) -> Result<(), Stop>
+    requires { machine.old.flow ≡ Normal }
+    ensures { (p : ProgramTree) (n : ℕ)
+        → IsStep p n result machine.old machine.new (expr_task_run p n (task.evaluate e.now)) }
+{
+    c_interp_expand::evaluate(e, &machine.slots, &mut machine.tasks)?;
+    Ok(())
+}
+
+/// A place, whose address becomes an operand.
+pub(crate) fn locate<'a>(machine: &mut Machine<'a>, q: &'a TPlace) -> Result<(), Stop>
+    requires { machine.old.flow ≡ Normal }
+    ensures { (p : ProgramTree) (n : ℕ)
+        → IsStep p n result machine.old machine.new (expr_task_run p n (task.locate q.now)) }
+{
+    c_interp_expand::locate(q, &mut machine.tasks)?;
+    Ok(())
+}
+
+/// Expressions whose values are dropped.
+pub(crate) fn drop_each<'a>(machine: &mut Machine<'a>, es: &'a [TExpr]) -> Result<(), Stop>
+    requires { machine.old.flow ≡ Normal }
+    ensures { (p : ProgramTree) (n : ℕ)
+        → IsStep p n result machine.old machine.new
+        (expr_task_run p n (task.drop_each (exprs_of es.now))) }
+{
+    c_interp_expand::drop_each(es, &mut machine.tasks)?;
+    Ok(())
+}
+
+/// Arguments, which become operands.
+pub(crate) fn pass_each<'a>(machine: &mut Machine<'a>, es: &'a [TExpr]) -> Result<(), Stop>
+    requires { machine.old.flow ≡ Normal }
+    ensures { (p : ProgramTree) (n : ℕ)
+        → IsStep p n result machine.old machine.new
+        (expr_task_run p n (task.pass_each (exprs_of es.now))) }
+{
+    c_interp_expand::pass_each(es, &mut machine.tasks)?;
+    Ok(())
+}
+
+/// A statement, in which a loop may take at most `bound` turns.
+pub(crate) fn run_stmt<'a>(machine: &mut Machine<'a>, bound: u64, a: &'a TStmt) -> Result<(), Stop>
+    requires { machine.old.flow ≡ Normal }
+    ensures { (p : ProgramTree) → IsStep p bound result machine.old machine.new
+        (stmt_task_run p bound (stmt.run_stmt a.now)) }
+{
+    c_interp_expand::run_stmt(a, bound, &mut machine.tasks)?;
+    Ok(())
+}
+
+/// Groups of a `switch`, one after the other.
+pub(crate) fn run_groups<'a>(machine: &mut Machine<'a>, gs: &'a [Group]) -> Result<(), Stop>
+    requires { machine.old.flow ≡ Normal }
+    ensures { (p : ProgramTree) (n : ℕ)
+        → IsStep p n result machine.old machine.new
+        (stmt_task_run p n (stmt.run_groups (groups_of gs.now))) }
+{
+    c_interp_expand::run_groups(gs, &mut machine.tasks)?;
+    Ok(())
+}
+
+/// Elements of the initialiser of the object of this number.
+pub(crate) fn begin_elements<'a>(
+    machine: &mut Machine<'a>,
+    number: u32,
+    es: &'a [Element],
+) -> Result<(), Stop>
+    requires { machine.old.flow ≡ Normal }
+    ensures { (p : ProgramTree) (n : ℕ)
+        → IsStep p n result machine.old machine.new
+        (stmt_task_run p n (stmt.begin_elements number (elements_of es.now))) }
+{
+    c_interp_expand::begin_elements(number, es, &mut machine.tasks)?;
+    Ok(())
+}

@@ -1,0 +1,180 @@
+//! Tasks of loops, and what a jump leaves (ISO/IEC 9899:2011, 6.8.5, 6.8.6).
+
+ghost use Rattle.std.specs.Prelude.{◌≡◌, ℕ};
+ghost use Rattle.c_typed.specs.Typed.{ProgramTree};
+ghost use Rattle.c_interp_expand.specs.TaskViews.{flow_of};
+ghost use Rattle.c_interp_def.specs.declared.task.Flow.TheVariants.{Normal};
+ghost use Rattle.c_interp_def.specs.StmtTasks as stmt;
+ghost use Rattle.c_interp_def.specs.StmtTasks.{stmt_task_run, handler_run, turn_tasks, again_tasks};
+ghost use Rattle.c_interp.specs.Steps.{IsStep, tasks_do, turns_do, asked_do, is_loop};
+
+use crate::machine::Machine;
+use crate::push::put;
+use crate::stop::Stop;
+use c_interp_def::{Flow, Stage, StmtTask, Task};
+use c_interp_value::truth;
+use c_type::CType;
+use c_typed::{StmtForm, TStmt};
+
+fn is_loop(a: &TStmt) -> bool
+    ensures { result ≡ is_loop a.now }
+{
+    matches!(&a.form, StmtForm::Loop { .. } | StmtForm::DoWhile { .. })
+}
+
+/// A loop, of which so many turns are left.
+pub(crate) fn run_turns<'a>(machine: &mut Machine<'a>, turns: u64, a: &'a TStmt) -> Result<(), Stop>
+    requires { machine.old.flow ≡ Normal }
+    ensures { (p : ProgramTree) (n : ℕ)
+        → IsStep p n result machine.old machine.new
+        (stmt_task_run p n (stmt.run_turns turns a.now)) }
+{
+    if !is_loop(a) {
+        return Err(Stop::Undefined);
+    }
+    if c_interp_expand::run_turns(turns, a, &mut machine.tasks)? {
+        Ok(())
+    } else {
+        Err(Stop::Cut)
+    }
+}
+
+// A turn of this loop, where one is left.
+fn turn<'a>(
+    machine: &mut Machine<'a>,
+    turns: u64,
+    a: &'a TStmt,
+    body: &'a TStmt,
+) -> Result<(), Stop>
+    requires { machine.old.flow ≡ Normal }
+    ensures { (p : ProgramTree) (n : ℕ)
+        → IsStep p n result machine.old machine.new
+        (turns_do p n (turn_tasks turns a.now body.now)) }
+{
+    if c_interp_expand::turn(turns, a, body, &mut machine.tasks)? {
+        Ok(())
+    } else {
+        Err(Stop::Cut)
+    }
+}
+
+/// A loop with its condition, of which so many turns are left.
+pub(crate) fn turn_if<'a>(machine: &mut Machine<'a>, turns: u64, a: &'a TStmt) -> Result<(), Stop>
+    requires { machine.old.flow ≡ Normal }
+    ensures { (p : ProgramTree) (n : ℕ)
+        → IsStep p n result machine.old machine.new
+        (stmt_task_run p n (stmt.turn_if turns a.now)) }
+{
+    match &a.form {
+        StmtForm::Loop {
+            condition,
+            body,
+            ..
+        } => match condition {
+            Some(e) => turn_while(machine, turns, a, &e.ty, body),
+            None => Err(Stop::Undefined),
+        },
+        StmtForm::DoWhile { condition, .. } => turn_again(machine, turns, a, &condition.ty),
+        _ => Err(Stop::Undefined),
+    }
+}
+
+// The same of a loop with a condition of this type.
+fn turn_while<'a>(
+    machine: &mut Machine<'a>,
+    turns: u64,
+    a: &'a TStmt,
+    t: &CType,
+    body: &'a TStmt,
+) -> Result<(), Stop>
+    requires { machine.old.flow ≡ Normal }
+    ensures { (p : ProgramTree) (n : ℕ)
+        → IsStep p n result machine.old machine.new
+        (asked_do t.now (turns_do p n (turn_tasks turns a.now body.now))) }
+{
+    let Some(v) = machine.operands.pop() else {
+        return Err(Stop::Undefined);
+    };
+    match truth(t, v) {
+        Some(true) => turn(machine, turns, a, body),
+        Some(false) => Ok(()),
+        None => Err(Stop::Undefined),
+    }
+}
+
+// The same of a `do` statement with a condition of this type.
+fn turn_again<'a>(
+    machine: &mut Machine<'a>,
+    turns: u64,
+    a: &'a TStmt,
+    t: &CType,
+) -> Result<(), Stop>
+    requires { machine.old.flow ≡ Normal }
+    ensures { (p : ProgramTree) (n : ℕ)
+        → IsStep p n result machine.old machine.new
+        (asked_do t.now (stmt_task_run p n (stmt.run_turns turns a.now))) }
+{
+    let Some(v) = machine.operands.pop() else {
+        return Err(Stop::Undefined);
+    };
+    match truth(t, v) {
+        Some(true) => put(
+            machine,
+            Task::OfStmt(StmtTask::OnStmt(Stage::RunTurns(turns), a)),
+        ),
+        Some(false) => Ok(()),
+        None => Err(Stop::Undefined),
+    }
+}
+
+/// A loop or a `switch` has ended: its own `break` ends it alone.
+pub(crate) fn end_switch(machine: &mut Machine) -> Result<(), Stop>
+    ensures { (p : ProgramTree) (n : ℕ)
+        → IsStep p n result machine.old machine.new
+        (handler_run p n stmt.end_switch (flow_of machine.old.flow)) }
+{
+    match machine.flow {
+        Flow::Broke => {
+            machine.flow = Flow::Normal;
+            Ok(())
+        }
+        _ => Ok(()),
+    }
+}
+
+/// A turn of a loop has ended, and so many are left: the loop goes on, or is left.
+pub(crate) fn again<'a>(machine: &mut Machine<'a>, turns: u64, a: &'a TStmt) -> Result<(), Stop>
+    ensures { (p : ProgramTree) (n : ℕ)
+        → IsStep p n result machine.old machine.new
+        (handler_run p n (stmt.again turns a.now) (flow_of machine.old.flow)) }
+{
+    if !is_loop(a) {
+        return Err(Stop::Undefined);
+    }
+    match machine.flow {
+        Flow::Normal => go_on(machine, turns, a),
+        Flow::Continued => go_on(machine, turns, a),
+        Flow::Broke => Ok(()),
+        Flow::Returned(_) => Ok(()),
+    }
+}
+
+// The loop goes on.
+fn go_on<'a>(machine: &mut Machine<'a>, turns: u64, a: &'a TStmt) -> Result<(), Stop>
+    ensures { (p : ProgramTree) (n : ℕ)
+        → IsStep p n result machine.old machine.new (tasks_do p n (again_tasks turns a.now)) }
+{
+    machine.flow = Flow::Normal;
+    c_interp_expand::again(turns, a, &mut machine.tasks)?;
+    Ok(())
+}
+
+/// A scope has ended, outside which so many variables are in scope.
+pub(crate) fn end_scope(machine: &mut Machine, count: usize) -> Result<(), Stop>
+    ensures { (p : ProgramTree) (n : ℕ)
+        → IsStep p n result machine.old machine.new
+        (handler_run p n (stmt.end_scope count) (flow_of machine.old.flow)) }
+{
+    machine.slots.truncate(count);
+    Ok(())
+}
