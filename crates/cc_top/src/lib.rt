@@ -2,7 +2,8 @@
 //! arguments of a command line ask for; it works over the files and streams that it is handed. Each
 //! status comes at its cause. On status 0 of `build` the source is accepted, OUT is exactly its
 //! image under the recipe, and on the machine OUT does what the source does; on status 0 of `check`
-//! the source is accepted and IMG does what it does, whoever wrote log and image.
+//! the source is accepted and IMG does what it does, whoever wrote log and image; on status 0 or 7
+//! of `interp` the output has gained what the source's own run writes.
 //! Always: a refused build creates no file.
 #![tactic(auto)]
 
@@ -21,9 +22,11 @@ use board_work::Gate;
 use cc_build::{accept, build};
 use cc_certify::check;
 use cc_command::{Command, parse_command};
+use cc_interpret::interpret;
 use cc_io::{Files, Sink, Source};
 use cc_report::{Ending, Outcome, tell};
 use cc_run::{generated, run};
+use cc_script::session::session;
 use cc_watch::Watcher;
 use std::alloc::Global;
 use std::sync::Wait;
@@ -46,7 +49,12 @@ use std::thread::Threads;
 /// one of the source IN: whether the log's steps, each done at its node, lead from the functions of
 /// IN to those of IMG, byte for byte. Where they do, IMG does what the source does, as OUT of a
 /// build does, whoever wrote LOG and IMG. Not every image that does so has such a log. No file
-/// changes.
+/// changes. `session IN OUT [--workers N] [--recipe LIST]` answers the commands of the script on
+/// `input`, each by a line on `output`: `replace` puts a text in place of a function's definition in
+/// the source, and `build` creates OUT anew with the source's image, of which only what was edited,
+/// and what depends on it, is made again. `interp IN [--bound N]` runs the source IN itself, from
+/// `input` to `output`, where a loop takes at most N turns and calls nest at most N deep, 1 to
+/// 1,000,000, and 1,000,000 where N is not given: no image is made, and no file changes.
 /// Without arguments the source on `input` is compiled and the line `accepted F` written on
 /// `output`, F being the number of functions that it defines; no file changes. What a user reads of
 /// the end is written on `report`: on status 0 of `build` the text of the report that is asked for,
@@ -62,11 +70,13 @@ use std::thread::Threads;
 /// it makes a function. OUT is the same for every N. A call may wait, and what is said here holds
 /// where it returns. The statuses:
 ///
-/// - 0: `build` or `gen` wrote OUT, `accepted F` was written, the program that `run` ran has
-///   exited, and the line has its exit status, or LOG certifies IMG, and the line is `yes`.
+/// - 0: `build` or `gen` wrote OUT, `accepted F` was written, the program that `run` or `interp` ran
+///   has exited, and the line has its exit status, LOG certifies IMG, and the line is `yes`, or each
+///   command of a session to its `end` was answered, and OUT is the image of the last `build`.
 /// - 1: the arguments are no command, LIST is no recipe, or no watcher has the name NAME. Nothing
 ///   has changed.
-/// - 2: a file or the input was not read, since a call failed. No file has changed.
+/// - 2: a file or the input was not read, since a call failed. No file has changed but by a session,
+///   whose commands before it were answered.
 /// - 3: a file, the output or the report was not written, since a call failed. A file or stream
 ///   that was written then holds a prefix of what was to be written; OUT is whole where the report
 ///   alone was not written.
@@ -75,11 +85,15 @@ use std::thread::Threads;
 ///   written on `output`.
 /// - 5: IMG is no executable that can be run; the line names the fault.
 /// - 6: memory ran out. Nothing was written on `output`, and no file was created or written, but
-///   that OUT is whole where memory ran out for the text of the report.
+///   that OUT is whole where memory ran out for the text of the report, that a session has answered
+///   the commands before it, and that `interp` has written a prefix of what the run writes.
 /// - 7: the program that `run` ran used up its stack, was not done after N instructions, or came to
-///   an instruction that cannot be done.
+///   an instruction that cannot be done; or the run that `interp` made was cut by its bound (`cut`),
+///   or did what the language leaves undefined (`undefined`; ISO/IEC 9899:2011, 3.4.3).
 /// - 8: LOG does not certify IMG; the line names the fault and its number, and the line of LOG that
 ///   has it or the first byte at which IMG is another one. Nothing has changed.
+/// - 9: a command of a session's script is none, or is not whole; the line has its number. Those
+///   before it were answered.
 pub fn top<H: Threads + Wait + Sync, F: Files, I: Source, O: Sink, E: Sink, G: Gate>(
     rt: &H,
     alloc: Global,
@@ -159,6 +173,17 @@ fn carry_out<H: Threads + Wait + Sync, F: Files, I: Source, O: Sink, G: Gate>(
         } => Ending::Line(generated::write_generated(files, start, functions, out)),
         Command::Check { source, log, image } => {
             Ending::Line(check(alloc, files, source, log, image))
+        }
+        Command::Session {
+            source,
+            image,
+            recipe,
+            workers,
+        } => Ending::Line(session(
+            rt, alloc, files, input, output, source, image, recipe, workers, gate,
+        )),
+        Command::Interpret { source, bound } => {
+            Ending::Line(interpret(alloc, files, input, output, source, bound))
         }
     }
 }
