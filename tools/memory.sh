@@ -1,9 +1,10 @@
 #!/bin/sh
-# Refuses each allocation of commands in turn: builds of four sources by 1 and 2 workers under each report, runs, checks, a source on the
-# input, and a generated program. A command ends as it does with all its memory, or reports `memory` and has written nothing and made no file
-# (the whole one where the text of a report found no memory). `read fault` and `write fault` come where the name of the file that is opened
-# or created found no memory, and nowhere else: the names are of lengths that nothing else has. That needs gcc. Without it, the first
-# allocation of the program is refused by rt.
+# Refuses each allocation of commands in turn: builds of four sources by 1 and 2 workers under each report, runs of their images and of
+# the sources themselves, checks, a source on the input, a generated program, and a session by 1 and 2 workers. A command ends as it does
+# with all its memory, or reports `memory` and has written nothing and made no file (the run of a source: a front of what it writes; the
+# whole file where the text of a report found no memory; a session: a front of its answers, and one of its images or none). `read fault`
+# and `write fault` come where the name of the file that is opened or created found no memory, and nowhere else: the names are of lengths
+# that nothing else has. That needs gcc. Without it, the first allocation of the program is refused by rt.
 set -u
 cd "$(dirname "$0")/.." || exit 1
 script=tools/memory.sh
@@ -86,6 +87,17 @@ is_name() {
 opening=" r1 r$((read_length + 2)) r$read_length"
 creation=" w1 w$((made_length + 2)) w$made_length"
 
+# A front of what is written with all memory was written.
+is_front_of_output() {
+    head -c "$(wc -c <"$folder/output")" "$folder/whole_output" | cmp -s - "$folder/output"
+}
+
+# What a session leaves that was broken off: a front of its answers, and the image of one of its builds or none.
+is_front_of_session() {
+    is_front_of_output || return 1
+    [ ! -e "$out" ] || cmp -s "$folder/first_out" "$out" || cmp -s "$folder/whole_out" "$out"
+}
+
 # refuse FAULTS INPUT WORDS..: refuses each allocation of the command in turn; these are read and write faults.
 refuse() {
     wanted=$1
@@ -107,8 +119,11 @@ refuse() {
                 [ ! -e "$folder/whole_out" ] || cmp -s "$folder/whole_out" "$out" || fail "the file differs: $where"
                 ;;
             '6 memory')
-                [ ! -s "$folder/output" ] || fail "output was written: $where"
-                [ ! -e "$out" ] || { [ "${4-}" = --report ] && cmp -s "$folder/whole_out" "$out"; } || fail "a file was made: $where"
+                case ${1-} in
+                    session) is_front_of_session ;;
+                    interp) is_front_of_output && [ ! -e "$out" ] ;;
+                    *) [ ! -s "$folder/output" ] && { [ ! -e "$out" ] || { [ "${4-}" = --report ] && cmp -s "$folder/whole_out" "$out"; }; } ;;
+                esac || fail "output or a file: $where"
                 ;;
             '2 read fault')
                 is_name $read_length || fail "a read fault: $where"
@@ -118,7 +133,11 @@ refuse() {
                 ;;
             '3 write fault')
                 is_name $made_length || fail "a write fault: $where"
-                [ ! -s "$folder/output" ] && [ ! -e "$out" ] || fail "output or a file: $where"
+                if [ "${1-}" = session ]; then
+                    is_front_of_session || fail "output or a file: $where"
+                else
+                    [ ! -s "$folder/output" ] && [ ! -e "$out" ] || fail "output or a file: $where"
+                fi
                 faults="$faults w$size"
                 writes=$((writes + 1))
                 ;;
@@ -151,9 +170,15 @@ for source in one four chain squares; do
     "$program" build "$folder/$source.c" "$folder/$source.elf" || fail "$source.c is not built"
     image=$(named $source.elf $read_length) || exit 1
     refuse "$opening" "$folder/nothing" run "$image"
+    refuse "$opening" "$folder/nothing" interp "$in"
     "$program" build "$folder/$source.c" "$folder/$source.elf" --report log 2>"$folder/$source.log" || fail "$source.c has no log"
     log=$(named $source.log $read_length) || exit 1
     refuse "$opening$opening$opening" "$folder/nothing" check "$in" "$log" "$image"
 done
 refuse "$creation" "$folder/nothing" gen 7 20 "$out"
+"$program" build "$folder/four.c" "$folder/first_out" || fail 'four.c is not built'
+printf 'build\nreplace c 33\nint c(int x) { return d(x) * 4; }\nbuild\nend\n' >"$folder/script"
+for workers in 1 2; do
+    refuse "$opening$creation$creation" "$folder/script" session "$(named four.c $read_length)" "$out" --workers $workers
+done
 echo "$script: $refused commands without an allocation end as they should, $reads of them by a file that was not opened, $writes not created"
