@@ -1,0 +1,5 @@
+mod SeenLemmas
+mod UseLemmas
+mod KindLemmas
+mod EditLemmas
+mod ResultLemmas

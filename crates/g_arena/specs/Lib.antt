@@ -1,0 +1,4 @@
+pub mod Plain
+pub mod Numbered
+pub mod Seen
+pub mod Indexed
