@@ -1,7 +1,8 @@
 #!/bin/sh
-# Refuses each allocation of commands in turn: builds of four sources by 1 and 2 workers under each report, runs, checks, a source on the
-# input, and a generated program. A command ends as it does with all its memory, or reports `memory` and has written nothing and made no file
-# (the whole one where the text of a report found no memory). `read fault` and `write fault` come where the name of the file that is opened
+# Refuses each allocation of commands in turn: builds of four sources by 1 and 2 workers under each report, runs of their images and of
+# the sources themselves, checks, a source on the input, and a generated program. A command ends as it does with all its memory, or
+# reports `memory` and has written nothing (the run of a source: a beginning of what it writes) and made no file (the whole one where
+# the text of a report found no memory). `read fault` and `write fault` come where the name of the file that is opened
 # or created found no memory, and nowhere else: the names are of lengths that nothing else has. That needs gcc. Without it, the first
 # allocation of the program is refused by rt.
 set -u
@@ -107,7 +108,11 @@ refuse() {
                 [ ! -e "$folder/whole_out" ] || cmp -s "$folder/whole_out" "$out" || fail "the file differs: $where"
                 ;;
             '6 memory')
-                [ ! -s "$folder/output" ] || fail "output was written: $where"
+                if [ "${1-}" = interp ]; then
+                    head -c "$(wc -c <"$folder/output")" "$folder/whole_output" | cmp -s - "$folder/output" || fail "the output begins otherwise: $where"
+                else
+                    [ ! -s "$folder/output" ] || fail "output was written: $where"
+                fi
                 [ ! -e "$out" ] || { [ "${4-}" = --report ] && cmp -s "$folder/whole_out" "$out"; } || fail "a file was made: $where"
                 ;;
             '2 read fault')
@@ -151,6 +156,7 @@ for source in one four chain squares; do
     "$program" build "$folder/$source.c" "$folder/$source.elf" || fail "$source.c is not built"
     image=$(named $source.elf $read_length) || exit 1
     refuse "$opening" "$folder/nothing" run "$image"
+    refuse "$opening" "$folder/nothing" interp "$in"
     "$program" build "$folder/$source.c" "$folder/$source.elf" --report log 2>"$folder/$source.log" || fail "$source.c has no log"
     log=$(named $source.log $read_length) || exit 1
     refuse "$opening$opening$opening" "$folder/nothing" check "$in" "$log" "$image"

@@ -1,9 +1,10 @@
 #!/bin/sh
 # Builds programs under `none`, the default recipe, each rule alone and thirty recipes that are drawn, by 1 and by 7 workers. The two
-# images must be the same bytes. Each image must write and end with what gcc's program does, under `rvcc run` and under qemu-riscv32;
-# readelf reads it without a complaint, and objdump finds an instruction in each word of its text. The programs are those of
-# examples/, which gcc's sanitizers check too, and those of the table of runs in rows/. The seed of the recipes is printed; as an
-# argument it draws the same ones again. With a second argument so many recipes are tried: `none`, the default and drawn ones.
+# images must be the same bytes. Each image must write and end with what gcc's program does, under `rvcc run` and under qemu-riscv32,
+# and so must the source under `rvcc interp`; readelf reads each image without a complaint, and objdump finds an instruction in each
+# word of its text. The programs are those of examples/, which gcc's sanitizers check too, and those of the table of runs in rows/.
+# The seed of the recipes is printed; as an argument it draws the same ones again. With a second argument so many recipes are tried:
+# `none`, the default and drawn ones.
 set -u
 cd "$(dirname "$0")/.." || exit 1
 script=tools/outside.sh
@@ -119,6 +120,9 @@ def compare(number, name, source, given, wanted):
         file.write(source)
     wanted = wanted or of_gcc(home, source, given)
     images, wrong = {}, []
+    output, status, report = outcome([program, "interp", home + "/source.c"], given)
+    if (output, status, report) != (wanted[0], 0, "exit %d\n" % wanted[1]):
+        wrong.append(("none", "is run without an image otherwise than gcc's program: " + report.strip()))
     for recipe in RECIPES:
         image = built(home, recipe, "1")
         if image is None or image != built(home, recipe, "7"):

@@ -1,7 +1,7 @@
 #!/bin/sh
-# Compares the compiler with tables of expected values: refusals, images, words of images, runs, what `check` says of logs and images,
-# and what recipes do to each function, as the log tells it. The tables stand in rows/, with the program read.py that reads them and
-# tries them. Every second build has three workers. It prints each difference.
+# Compares the compiler with tables of expected values: refusals, images, words of images, runs of images and of sources, what `check`
+# says of logs and images, sessions, and what recipes do to each function, as the log tells it. The tables stand in rows/, with the
+# program read.py that reads them and tries them. Every second build has three workers. It prints each difference.
 set -u
 cd "$(dirname "$0")/.." || exit 1
 script=tools/rows.sh
@@ -27,7 +27,7 @@ class ByWorkers(read.Trial):
 
 
 comparison = ByWorkers(sys.argv[2], sys.argv[3])
-for name in ("refusals", "images", "runs", "undefined", "bounded", "examples", "generated", "certificates"):
+for name in ("refusals", "images", "runs", "undefined", "bounded", "examples", "generated", "certificates", "sessions", "interp"):
     for number, row in enumerate(read.table(name), 1):
         getattr(comparison, name)("%s %d" % (name, number), row)
 for name, ending in (("listings", ".list"), ("graphs", ".graph"), ("rules", ".case")):

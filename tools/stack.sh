@@ -1,6 +1,7 @@
 #!/bin/sh
 # Builds the deepest sources that are accepted by 1, 2 and 64 workers, under the default recipe, each rule alone and no recipe, with a
-# stack of 1 MiB, 8 MiB and without a limit, to the same bytes. README says that this is enough.
+# stack of 1 MiB, 8 MiB and without a limit, to the same bytes; with 1 MiB it runs them without an image too. README says that this is
+# enough.
 set -u
 cd "$(dirname "$0")/.." || exit 1
 script=tools/stack.sh
@@ -37,6 +38,8 @@ while read -r source depth refused; do
     "$program" build "$folder/source.c" "$folder/image.elf" 2>"$folder/report" && fail "$source are accepted at $((depth + 1))"
     grep -qx "refused $refused" "$folder/report" || fail "$source at $((depth + 1)): $(cat "$folder/report")"
     $source "$depth" >"$folder/source.c"
+    (ulimit -s 1024 && exec "$program" interp "$folder/source.c" </dev/null) 2>"$folder/report"
+    [ "$(cat "$folder/report")" = 'exit 3' ] || fail "$source run without an image end with $(cat "$folder/report")"
     for recipe in default $rules; do
         set --
         [ "$recipe" = default ] || set -- --recipe "$recipe"
@@ -62,4 +65,8 @@ blocks 65 TooDeep 22 line 1
 loops 98 TooDeep 22 line 1
 operators 66 TooDeep 22 line 1
 END
+# The calls of a source that is run without an image take none of that stack.
+echo 'int f(int n) { return n == 0 ? 0 : 1 + f(n - 1); } int main(void) { return f(999999) % 256; }' >"$folder/source.c"
+(ulimit -s 1024 && exec "$program" interp "$folder/source.c" </dev/null) 2>"$folder/report"
+[ "$(cat "$folder/report")" = 'exit 63' ] || fail "a million calls in each other end with $(cat "$folder/report")"
 echo "$script: $builds builds of the deepest sources need no more than 1 MiB of stack"

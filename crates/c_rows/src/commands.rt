@@ -40,6 +40,18 @@ fn say_one(out: &mut String, command: Command<'_>) -> Result<(), NoMemory> {
         Command::Check { source, log, image } => {
             write!(out, "check {source} by {log} for {image}\n")?
         }
+        Command::Session {
+            source,
+            image,
+            recipe,
+            workers,
+        } => {
+            write!(
+                out,
+                "edit {source} to {image} workers {workers} recipe {recipe}\n"
+            )?
+        }
+        Command::Interpret { source, bound } => write!(out, "interpret {source} bound {bound}\n")?,
     }
     Ok(())
 }

@@ -1,7 +1,7 @@
 -- Each list of arguments is read as its row says.
 use Rattle.std.proofs.Common.{refl}
 use Rattle.cc_command.specs.Command.{number_in}
-use Rattle.cc_command.specs.CommandRows.{BuildRows, RecipeRows, WorkersRows, ReportRows, RunRows, OtherRows, GenRows, CheckRows}
+use Rattle.cc_command.specs.CommandRows.{BuildRows, RecipeRows, WorkersRows, ReportRows, RunRows, OtherRows, GenRows, CheckRows, SessionRows, BoundRows}
 
 pub build_rows : BuildRows
 unfolding number_in
@@ -131,4 +131,33 @@ check_rows = record {
   recipe = refl;
   help_for_a_name = refl;
   another_case = refl;
+}
+
+pub session_rows : SessionRows
+unfolding number_in
+session_rows = record {
+  two_names = refl;
+  both_options = refl;
+  greatest = refl;
+  greater = refl;
+  no_workers = refl;
+  report = refl;
+  one_name = refl;
+  three_names = refl;
+}
+
+pub bound_rows : BoundRows
+unfolding number_in
+bound_rows = record {
+  name = refl;
+  least = refl;
+  zeros = refl;
+  greatest = refl;
+  greater = refl;
+  no_turn = refl;
+  no_value = refl;
+  twice = refl;
+  no_name = refl;
+  two_names = refl;
+  steps = refl;
 }

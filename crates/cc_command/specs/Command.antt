@@ -17,6 +17,10 @@ pub data Command : Type 0 where
   generate : (start functions : ℕ) → List ℕ → Command
   -- say whether the log certifies the image as one of the source
   check : (source log image : Text) → Command
+  -- edit the source as the input says, function by function, and write each image that it asks for, under the recipe that a text gives, by so many workers
+  session : (source image recipe : Text) → (workers : ℕ) → Command
+  -- run the source itself, where a loop takes at most so many turns and calls nest at most so deep
+  interpret : (source : Text) → (bound : ℕ) → Command
 
 -- ---- numbers
 
@@ -127,8 +131,37 @@ check_form = record {
   command = check_of;
 }
 
+-- `session IN OUT [--recipe LIST] [--workers N]`, LIST and N as of a build
+abbrev pub session_of : List Value → Option Command
+session_of (text source ∷ text image ∷ text recipe ∷ number workers ∷ []) = Some (session source image recipe workers)
+session_of _ = None
+
+abbrev pub session_form : Form Command
+session_form = record {
+  name = codes "session";
+  positionals = record { name = codes "IN"; read = read_text } ∷ record { name = codes "OUT"; read = read_text } ∷ [];
+  options = recipe_option ∷ workers_option ∷ [];
+  command = session_of;
+}
+
+-- `interp IN [--bound N]`, N from 1 to 1,000,000, and 1,000,000 where it is not given
+abbrev pub interpret_of : List Value → Option Command
+interpret_of (text source ∷ number bound ∷ []) = Some (interpret source bound)
+interpret_of _ = None
+
+abbrev pub bound_option : OptionForm
+bound_option = record { name = codes "bound"; read = read_number 1 1000000; default = number 1000000 }
+
+abbrev pub interp_form : Form Command
+interp_form = record {
+  name = codes "interp";
+  positionals = record { name = codes "IN"; read = read_text } ∷ [];
+  options = bound_option ∷ [];
+  command = interpret_of;
+}
+
 abbrev pub forms : List (Form Command)
-forms = build_form ∷ run_form ∷ generate_form ∷ check_form ∷ []
+forms = build_form ∷ run_form ∷ generate_form ∷ check_form ∷ session_form ∷ interp_form ∷ []
 
 -- The command of all arguments, the program's name first. No arguments at all are read as the name alone.
 abbrev pub command_of : List Text → Option Command

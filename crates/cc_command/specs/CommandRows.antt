@@ -1,6 +1,6 @@
 -- Lists of arguments with their commands.
 use Rattle.std.specs.Prelude.{◌≡◌, ℕ, List, [], ◌∷◌, Option, Some, None, codes}
-use Rattle.cc_command.specs.Command.{Command, accept, build as build_by, default_recipe, run, generate, check, command_of}
+use Rattle.cc_command.specs.Command.{Command, accept, build as build_by, default_recipe, run, generate, check, session, interpret, command_of}
 
 -- the command of the arguments after the program's name
 abbrev pub command_after_name : List (List ℕ) → Option Command
@@ -130,5 +130,31 @@ pub record CheckRows : Type 0 where
   pub help_for_a_name : command_after_name (codes "check" ∷ codes "a" ∷ codes "b" ∷ codes "help" ∷ []) ≡ None
   pub another_case : command_after_name (codes "Check" ∷ codes "a" ∷ codes "b" ∷ codes "c" ∷ []) ≡ None
 
+-- the names and options of `session`
+pub record SessionRows : Type 0 where
+  pub two_names : command_after_name (codes "session" ∷ codes "a" ∷ codes "b" ∷ []) ≡ Some (session (codes "a") (codes "b") default_recipe 1)
+  pub both_options : command_after_name (codes "session" ∷ codes "--workers=4" ∷ codes "a" ∷ codes "--recipe" ∷ codes "fold" ∷ codes "b" ∷ [])
+      ≡ Some (session (codes "a") (codes "b") (codes "fold") 4)
+  pub greatest : command_after_name (codes "session" ∷ codes "a" ∷ codes "b" ∷ codes "--recipe=" ∷ codes "--workers" ∷ codes "64" ∷ []) ≡ Some (session (codes "a") (codes "b") [] 64)
+  pub greater : command_after_name (codes "session" ∷ codes "a" ∷ codes "b" ∷ codes "--workers" ∷ codes "65" ∷ []) ≡ None
+  pub no_workers : command_after_name (codes "session" ∷ codes "a" ∷ codes "b" ∷ codes "--workers=0" ∷ []) ≡ None
+  pub report : command_after_name (codes "session" ∷ codes "a" ∷ codes "b" ∷ codes "--report" ∷ codes "log" ∷ []) ≡ None
+  pub one_name : command_after_name (codes "session" ∷ codes "a" ∷ []) ≡ None
+  pub three_names : command_after_name (codes "session" ∷ codes "a" ∷ codes "b" ∷ codes "c" ∷ []) ≡ None
+
+-- the bound of `interp`
+pub record BoundRows : Type 0 where
+  pub name : command_after_name (codes "interp" ∷ codes "a" ∷ []) ≡ Some (interpret (codes "a") 1000000)
+  pub least : command_after_name (codes "interp" ∷ codes "a" ∷ codes "--bound" ∷ codes "1" ∷ []) ≡ Some (interpret (codes "a") 1)
+  pub zeros : command_after_name (codes "interp" ∷ codes "--bound=007" ∷ codes "a" ∷ []) ≡ Some (interpret (codes "a") 7)
+  pub greatest : command_after_name (codes "interp" ∷ codes "a" ∷ codes "--bound" ∷ codes "1000000" ∷ []) ≡ Some (interpret (codes "a") 1000000)
+  pub greater : command_after_name (codes "interp" ∷ codes "a" ∷ codes "--bound" ∷ codes "1000001" ∷ []) ≡ None
+  pub no_turn : command_after_name (codes "interp" ∷ codes "a" ∷ codes "--bound" ∷ codes "0" ∷ []) ≡ None
+  pub no_value : command_after_name (codes "interp" ∷ codes "a" ∷ codes "--bound" ∷ []) ≡ None
+  pub twice : command_after_name (codes "interp" ∷ codes "a" ∷ codes "--bound=3" ∷ codes "--bound=3" ∷ []) ≡ None
+  pub no_name : command_after_name (codes "interp" ∷ []) ≡ None
+  pub two_names : command_after_name (codes "interp" ∷ codes "a" ∷ codes "b" ∷ []) ≡ None
+  pub steps : command_after_name (codes "interp" ∷ codes "a" ∷ codes "--steps=3" ∷ []) ≡ None
+
 abbrev pub CommandRows : Type 0
-CommandRows = BuildRows × RecipeRows × WorkersRows × ReportRows × RunRows × OtherRows × GenRows × CheckRows
+CommandRows = BuildRows × RecipeRows × WorkersRows × ReportRows × RunRows × OtherRows × GenRows × CheckRows × SessionRows × BoundRows

@@ -1,9 +1,9 @@
 -- The plain form of a parsed command.
 use Rattle.std.specs.Prelude.{◌≤◌, option_map}
 use Rattle.limits.specs.Limits.{most_workers}
-use Rattle.cc_command.specs.Command.{Command, accept, build, run, generate, check}
+use Rattle.cc_command.specs.Command.{Command, accept, build, run, generate, check, session, interpret}
 use Rattle.cc_command.specs.declared.arguments.Command.{Command as Parsed}
-use Rattle.cc_command.specs.declared.arguments.Command.TheVariants.{Accept, Build, Run, Generate, Check}
+use Rattle.cc_command.specs.declared.arguments.Command.TheVariants.{Accept, Build, Run, Generate, Check, Session, Interpret}
 
 -- the plain form of a parsed command
 abbrev pub plain_command : Parsed → Command
@@ -12,8 +12,12 @@ plain_command (Build source image recipe workers report) = build source.now imag
 plain_command (Run image steps) = run image.now steps
 plain_command (Generate start functions out) = generate start functions out.now
 plain_command (Check source log image) = check source.now log.now image.now
+plain_command (Session source image recipe workers) = session source.now image.now recipe.now workers
+plain_command (Interpret source bound) = interpret source.now bound
 
--- a build is by 1 to the most workers
-abbrev pub HasWorkers : Parsed → Type 0
-HasWorkers (Build source image recipe workers report) = (1 ≤ workers) × (workers ≤ most_workers)
-HasWorkers _ = Unit {0}
+-- a build or a session is by 1 to the most workers, and a source is run within a bound of 1 to 1,000,000
+abbrev pub IsInRange : Parsed → Type 0
+IsInRange (Build source image recipe workers report) = (1 ≤ workers) × (workers ≤ most_workers)
+IsInRange (Session source image recipe workers) = (1 ≤ workers) × (workers ≤ most_workers)
+IsInRange (Interpret source bound) = (1 ≤ bound) × (bound ≤ 1000000)
+IsInRange _ = Unit {0}

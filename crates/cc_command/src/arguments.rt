@@ -6,10 +6,10 @@ ghost use Rattle.limits.specs.Limits.{most_workers};
 ghost use Rattle.clap.specs.Words.{app_of, first_of, found_of, rows_of, shape_of, subcommand_rows_of};
 ghost use Rattle.clap.specs.declared.builder.command.Command.TheViews.{out-Command as fields_of};
 ghost use Rattle.cc_command.specs.Arguments.{rvcc, shape_of_form};
-ghost use Rattle.cc_command.specs.Command.{command_of, build_form, check_form, forms, generate_form, recipe_option, run_form, steps_option, workers_option};
+ghost use Rattle.cc_command.specs.Command.{bound_option, command_of, build_form, check_form, forms, generate_form, interp_form, recipe_option, run_form, session_form, steps_option, workers_option};
 ghost use Rattle.cc_command.specs.Forms.{form_named, number, text, value_or_default};
 ghost use Rattle.cc_command.specs.Reading.{found_by, read_by, read_command};
-ghost use Rattle.cc_command.specs.PlainCommand.{plain_command, HasWorkers};
+ghost use Rattle.cc_command.specs.PlainCommand.{plain_command, IsInRange};
 
 use crate::numbers::number_in;
 use crate::reader::{help_is_asked, value, with_option, with_required};
@@ -55,6 +55,21 @@ pub enum Command<'a> {
         log: &'a str,
         image: &'a str,
     },
+    /// `session IN OUT [--recipe LIST] [--workers N]`: edit the source named IN as the input says,
+    /// function by function, and write each image that it asks for to the file named OUT, under the
+    /// recipe LIST and by N workers, as of a build.
+    Session {
+        source: &'a str,
+        image: &'a str,
+        recipe: &'a str,
+        workers: u32,
+    },
+    /// `interp IN [--bound N]`: run the source named IN itself, where a loop takes at most N turns
+    /// and calls nest at most N deep, 1 to 1,000,000; 1,000,000 where N is not given.
+    Interpret {
+        source: &'a str,
+        bound: u64,
+    },
 }
 
 fn build_arguments<'a>(alloc: Global) -> Result<Reader<'a>, AllocError>
@@ -94,6 +109,24 @@ fn check_arguments<'a>(alloc: Global) -> Result<Reader<'a>, AllocError>
     with_required(alloc, command, "IMG")
 }
 
+fn session_arguments<'a>(alloc: Global) -> Result<Reader<'a>, AllocError>
+    ensures shape { IfOk result (λ c. shape_of c ≡ shape_of_form session_form) }
+    ensures globals { IfOk result (λ c. (fields_of c).has_globals ≡ false) }
+{
+    let command = with_required(alloc, Reader::new(alloc, "session"), "IN")?;
+    let command = with_required(alloc, command, "OUT")?;
+    let command = with_option(alloc, command, "recipe")?;
+    with_option(alloc, command, "workers")
+}
+
+fn interpret_arguments<'a>(alloc: Global) -> Result<Reader<'a>, AllocError>
+    ensures shape { IfOk result (λ c. shape_of c ≡ shape_of_form interp_form) }
+    ensures globals { IfOk result (λ c. (fields_of c).has_globals ≡ false) }
+{
+    let command = with_required(alloc, Reader::new(alloc, "interp"), "IN")?;
+    with_option(alloc, command, "bound")
+}
+
 /// The program, of which each command is a subcommand.
 fn rvcc<'a>(alloc: Global) -> Result<Reader<'a>, AllocError>
     ensures { IfOk result (λ c. app_of c ≡ rvcc) }
@@ -102,7 +135,9 @@ fn rvcc<'a>(alloc: Global) -> Result<Reader<'a>, AllocError>
         .subcommand(build_arguments(alloc)?)?
         .subcommand(run_arguments(alloc)?)?
         .subcommand(generate_arguments(alloc)?)?
-        .subcommand(check_arguments(alloc)?)
+        .subcommand(check_arguments(alloc)?)?
+        .subcommand(session_arguments(alloc)?)?
+        .subcommand(interpret_arguments(alloc)?)
 }
 
 // The recipe of a build that names none.
@@ -134,7 +169,7 @@ fn workers_in(arguments: &ArgMatches<'_>) -> Option<u32>
 fn build_in<'a>(arguments: &ArgMatches<'a>) -> Option<Command<'a>>
     ensures command { option_map plain_command result
         ≡ read_by build_form (rows_of (found_of arguments.now)) }
-    ensures workers { IfSome result HasWorkers }
+    ensures range { IfSome result IsInRange }
 {
     Some(Command::Build {
         source: value(arguments, "IN")?,
@@ -191,18 +226,61 @@ fn check_in<'a>(arguments: &ArgMatches<'a>) -> Option<Command<'a>>
     })
 }
 
+fn session_in<'a>(arguments: &ArgMatches<'a>) -> Option<Command<'a>>
+    ensures command { option_map plain_command result
+        ≡ read_by session_form (rows_of (found_of arguments.now)) }
+    ensures range { IfSome result IsInRange }
+{
+    Some(Command::Session {
+        source: value(arguments, "IN")?,
+        image: value(arguments, "OUT")?,
+        recipe: recipe_in(arguments),
+        workers: workers_in(arguments)?,
+    })
+}
+
+// The greatest bound of a source's run, and the one where none is given.
+const MOST_TURNS: u64 = 1_000_000;
+
+/// How many turns a loop of a source's run may take, and how deep its calls may nest.
+fn bound_in(arguments: &ArgMatches<'_>) -> Option<u64>
+    ensures value { option_map number result
+        ≡ value_or_default bound_option
+        (first_of bound_option.name (rows_of (found_of arguments.now))) }
+    ensures from { IfSome result (λ n. 1 ≤ n) }
+    ensures within { IfSome result (λ n. n ≤ 1000000) }
+{
+    match value(arguments, "bound") {
+        Some(text) => number_in(1, MOST_TURNS, text),
+        None => Some(MOST_TURNS),
+    }
+}
+
+fn interpret_in<'a>(arguments: &ArgMatches<'a>) -> Option<Command<'a>>
+    ensures command { option_map plain_command result
+        ≡ read_by interp_form (rows_of (found_of arguments.now)) }
+    ensures range { IfSome result IsInRange }
+{
+    Some(Command::Interpret {
+        source: value(arguments, "IN")?,
+        bound: bound_in(arguments)?,
+    })
+}
+
 /// The command of this name with these arguments.
 fn command_named<'a>(name: &str, arguments: &ArgMatches<'a>) -> Option<Command<'a>>
     ensures command { option_map plain_command result
         ≡ option_and_then (λ form. read_by form (rows_of (found_of arguments.now)))
         (form_named name.now forms) }
-    ensures workers { IfSome result HasWorkers }
+    ensures range { IfSome result IsInRange }
 {
     match name {
         "build" => build_in(arguments),
         "run" => run_in(arguments),
         "gen" => generate_in(arguments),
         "check" => check_in(arguments),
+        "session" => session_in(arguments),
+        "interp" => interpret_in(arguments),
         _ => None,
     }
 }
@@ -211,7 +289,7 @@ fn command_named<'a>(name: &str, arguments: &ArgMatches<'a>) -> Option<Command<'
 fn command_in<'a>(arguments: &ArgMatches<'a>) -> Option<Command<'a>>
     ensures command { option_map plain_command result
         ≡ found_by forms (subcommand_rows_of arguments.now) }
-    ensures workers { IfSome result HasWorkers }
+    ensures range { IfSome result IsInRange }
 {
     let (name, arguments) = arguments.subcommand()?;
     command_named(name, arguments)
@@ -225,7 +303,7 @@ fn read_arguments<'a>(
 ) -> Result<Option<Command<'a>>, AllocError>
     ensures command { IfOk result (λ command. option_map plain_command command
         ≡ read_command (map string_bytes arguments.entry.now)) }
-    ensures workers { IfOk result (λ command. IfSome command HasWorkers) }
+    ensures range { IfOk result (λ command. IfSome command IsInRange) }
 {
     match rvcc(alloc)?.try_get_matches_from(arguments) {
         Ok(matches) => Ok(command_in(&matches)),
@@ -237,14 +315,15 @@ fn read_arguments<'a>(
 }
 
 /// The command of the arguments, the program's name first; `None` where they are no command. No
-/// arguments at all are read as the name alone. A build is by 1 to `MOST_WORKERS` workers.
+/// arguments at all are read as the name alone. A build or a session is by 1 to `MOST_WORKERS`
+/// workers, and a source is run within a bound of 1 to 1,000,000.
 pub fn parse_command<'a>(
     alloc: Global,
     arguments: &'a [String],
 ) -> Result<Option<Command<'a>>, AllocError>
     ensures command { IfOk result (λ command. option_map plain_command command
         ≡ command_of (map string_bytes arguments.entry.now)) }
-    ensures workers { IfOk result (λ command. IfSome command HasWorkers) }
+    ensures range { IfOk result (λ command. IfSome command IsInRange) }
 {
     if arguments.len() <= 1 {
         Ok(Some(Command::Accept))

@@ -36,11 +36,18 @@ pub record IsEdited (before : PlainAccepted) (name text : List ℕ) (after : Pla
 -- Why an edit is refused. Out of memory may come in place of any answer.
 abbrev pub IsEditRefused : EditFault → (before : PlainAccepted) → (name text : List ℕ) → Type 0
 IsEditRefused fault.NoFunction before name text = extent_of before.program.functions name ≡ None
-IsEditRefused (fault.Source e) before name text = (e ≢ compile.NoMemory) × ((new : List ℕ) × IsReplaced before name text new × Refuses e new)
+IsEditRefused (fault.Source e new) before name text = (e ≢ compile.NoMemory) × (IsReplaced before name text new × Refuses e new)
 IsEditRefused fault.OtherNames before name text =
     (new : List ℕ) × IsReplaced before name text new × ((p : ProgramTree) × Accepts new p × (names_of p.functions ≢ names_of before.program.functions))
 IsEditRefused fault.NoMemory before name text = Unit {0}
 
-abbrev pub of_source : CompileFault → EditFault
-of_source compile.NoMemory = fault.NoMemory
-of_source e = fault.Source e
+-- the fault of an edit that makes this source, which has this fault
+abbrev pub given_back : CompileFault → (source : List ℕ) → EditFault
+given_back compile.NoMemory source = fault.NoMemory
+given_back e source = fault.Source e source
+
+-- A source is not accepted, for its fault, and is given back; or memory ran out.
+abbrev pub IsNotAccepted : EditFault → (source : List ℕ) → Type 0
+IsNotAccepted (fault.Source e new) source = (e ≢ compile.NoMemory) × ((new ≡ source) × Refuses e source)
+IsNotAccepted fault.NoMemory source = Unit {0}
+IsNotAccepted _ source = ⊥

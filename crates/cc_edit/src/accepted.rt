@@ -4,10 +4,11 @@ ghost use Rattle.std.specs.Prelude.{◌≡◌, None, IfErr, IfOk};
 ghost use Rattle.c_typed.specs.WellTyped.{IsWellTyped};
 ghost use Rattle.c_check_def.specs.Limits.{above_limits};
 ghost use Rattle.cc_source.specs.Accepted.{Accepts, Refuses};
-ghost use Rattle.cc_edit.specs.Edits.{IsEdited, IsEditRefused};
+ghost use Rattle.cc_edit.specs.Edits.{given_back, IsEdited, IsEditRefused, IsNotAccepted};
 
 use crate::edit::{extent_of, have_same_names, replaced};
 use crate::fault::EditFault;
+use c_lex::Bytes;
 use c_typed::Typed;
 use cc_source::{CompileFault, accepted_of};
 use std::alloc::Global;
@@ -32,6 +33,31 @@ impl Model for AcceptedSource {
     ghost view = { λ a. record { source = a.source.items; program = a.typed } };
 
     ghost invariant = { λ a. IsAccepted a.source.items a.typed };
+}
+
+// The fault of an edit that makes this source, which has this fault.
+fn given_back(fault: CompileFault, new: Vec<u8>) -> EditFault
+    ensures { result ≡ given_back fault new.items }
+{
+    match fault {
+        CompileFault::NoMemory => EditFault::NoMemory,
+        fault => EditFault::Source {
+            fault,
+            new: Bytes::from_vec(new),
+        },
+    }
+}
+
+// The source that an edit makes, where it is accepted; else it is given back with its fault.
+fn accepted_or_back(alloc: Global, new: Vec<u8>) -> Result<AcceptedSource, EditFault>
+    ensures same { IfOk result (λ a. a.source ≡ new.items) }
+    ensures accepted { IfOk result (λ a. Accepts new.items a.program) }
+    ensures refused { IfErr result (λ e. IsNotAccepted e new.items) }
+{
+    match accepted_of(alloc, &new) {
+        Ok(typed) => Ok(AcceptedSource { source: new, typed }),
+        Err(fault) => Err(given_back(fault, new)),
+    }
 }
 
 impl AcceptedSource {
@@ -66,8 +92,9 @@ impl AcceptedSource {
 
     /// The source in which the definition of the first function of a name, from its first token to
     /// its closing brace, is a text. `NoFunction` where no function has the name; `Source` where
-    /// the new source is not accepted; `OtherNames` where the functions that it defines, in order,
-    /// have not the names that they had. `NoMemory` may come in place of any answer.
+    /// the new source is not accepted, which is given back with its fault; `OtherNames` where the
+    /// functions that it defines, in order, have not the names that they had. `NoMemory` may come
+    /// in place of any answer.
     pub fn edited(
         &self,
         alloc: Global,
@@ -82,7 +109,10 @@ impl AcceptedSource {
             None => return Err(EditFault::NoFunction),
         };
         let source = replaced(alloc, &self.source, extent, text)?;
-        let after = AcceptedSource::read(alloc, source)?;
+        let after = match accepted_or_back(alloc, source) {
+            Ok(after) => after,
+            Err(fault) => return Err(fault),
+        };
         if !have_same_names(&after.typed.functions, &self.typed.functions) {
             drop(after);
             return Err(EditFault::OtherNames);

@@ -72,17 +72,21 @@ impl Session {
 
     /// Replaces the definition of the first function of a name, from its first token to its closing
     /// brace, by a text. `NoFunction` where no function has the name; `Source` where the new source
-    /// is not accepted; `OtherNames` where the functions that it defines, in order, have not the
-    /// names that they had. `NoMemory` may come in place of any answer. The session is then as it
-    /// was.
+    /// is not accepted, which is given back with its fault; `OtherNames` where the functions that it
+    /// defines, in order, have not the names that they had. `NoMemory` may come in place of any
+    /// answer. The session is then as it was.
     pub fn replace(&mut self, name: &[u8], text: &[u8]) -> Result<(), EditFault>
         ensures replaced { OnOk result (Replaces self.old name.now text.now self.new) }
         ensures refused { IfErr result (λ e. IsReplaceRefused e self.old name.now text.now) }
         ensures unchanged { OnErr result (self.new ≡ self.old) }
     {
-        let after = self.current.edited(self.alloc, name, text)?;
-        self.current = after;
-        Ok(())
+        match self.current.edited(self.alloc, name, text) {
+            Ok(after) => {
+                self.current = after;
+                Ok(())
+            }
+            Err(fault) => Err(fault),
+        }
     }
 
     /// The image of the source under the recipe, as it is made from nothing, and how many functions

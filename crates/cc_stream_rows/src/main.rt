@@ -17,16 +17,22 @@ use std::thread::Threads;
 use std::{io, str};
 
 /// The files that are there: sources of a program that exits with 42, of one that writes what it
-/// reads and of none, the log of the first, and an input.
-const SOURCES: [(&str, &[u8]); 5] = [
+/// reads, of one that goes on asking at the end and of none, the log of the first, an input, and a
+/// script of a session.
+const SOURCES: [(&str, &[u8]); 7] = [
     ("answer.c", b"int main(void) { return 42; }"),
     (
         "echo.c",
         b"int main(void) { int c; while ((c = getchar()) != -1) putchar(c); return 7; }",
     ),
+    (
+        "late.c",
+        b"int main(void) { getchar(); getchar(); return 1 + getchar(); }",
+    ),
     ("wrong.c", b"int main(void) { x = 1; return 0; }"),
     ("answer.log", b"function main 8 8\n"),
     ("abc", b"abc"),
+    ("script", b"build\nend\n"),
 ];
 
 /// The images of the first two sources.

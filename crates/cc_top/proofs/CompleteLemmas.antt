@@ -2,7 +2,7 @@
 use Rattle.std.proofs.Common.{◌≡◌, ◌⊎◌, ℕ, List, Option, Some, None, Ok, Err, refl, sym, ap, ◌∙◌, inl, inr, subst}
 use Rattle.std.specs.Option.{ForSome}
 use Rattle.c_typed.specs.Typed.{ProgramTree}
-use Rattle.cc_command.specs.Command.{Command, accept, build, run, generate, check}
+use Rattle.cc_command.specs.Command.{Command, accept, build, run, generate, check, session, interpret}
 use Rattle.cc_source.specs.Accepted.{Accepts}
 use Rattle.cc_io.specs.Faults.{Increased}
 use Rattle.cc_io.specs.Files.{Name, content}
@@ -15,6 +15,8 @@ use Rattle.cc_outside.specs.Outside.{IfKnown, ReadFails, WriteFails, FilesSeen, 
 use Rattle.log_judge.specs.Judgement.{Certifies}
 use Rattle.cc_compile_laws.specs.Laws.{LogsCertifyImages}
 use Rattle.cc_certify.specs.CheckEnds.{CertifiedIsTold, CheckEnds}
+use Rattle.cc_interpret.specs.InterpretEnds.{InterpretCause}
+use Rattle.cc_script.specs.SessionEnds.{SessionEnds}
 use Rattle.cc_top.specs.Completes.{CheckCompletes, Completes, IsDone, Works}
 use Rattle.cc_top.specs.Ends.{Ends}
 use Rattle.cc_run.specs.GenerateEnds.{GenerateEnds}
@@ -23,7 +25,7 @@ use Rattle.cc_refusal.specs.Refused.{AcceptedIsNotRefused}
 use Rattle.cc_report.specs.Report.{IsReported}
 use Rattle.cc_run.specs.RunEnds.{RunEnds}
 use Rattle.cc_report.specs.declared.outcome.Outcome.{Outcome}
-use Rattle.cc_report.specs.declared.outcome.Outcome.TheVariants.{Done, ReadFault, WriteFault, Refused, BadImage, NoMemory, Exit, Stack, Budget, Stuck}
+use Rattle.cc_report.specs.declared.outcome.Outcome.TheVariants.{Done, ReadFault, WriteFault, Refused, BadImage, NoMemory, Exit, Stack, Budget, Stuck, Script, Undefined, Cut}
 
 -- the status is that of the outcome, where the report was written
 pub status-is : (ended : Outcome) (said : List ℕ) (status : ℕ) (held held' : Option (List ℕ)) (faults faults' : ℕ) → IsReported ended said status held held' faults faults'
@@ -54,6 +56,43 @@ module _ (law : AcceptedIsNotRefused) where
   accept-done WriteFault input input' output output' h reads writes = absurd (writes h.2.0)
   accept-done (Refused refusal) input input' output output' h reads writes = λ text is p a. absurd (law text p refusal a (h.0 text is))
   accept-done _ input input' output output' h reads writes = absurd h
+
+  session-done : (recipe : _) (source image : Name) (ended : Outcome) (before after : Outside) → SessionEnds recipe source image ended before after
+      → (ReadFails source before.files after.files → ⊥)
+      → (WriteFails image before.files after.files → ⊥)
+      → Works before.input after.input
+      → Works before.output after.output
+      → IfKnown source before.files (λ text. (p : ProgramTree) → Accepts text p → IsDone (status_of ended) ⊎ (status_of ended ≡ 9))
+  session-done recipe source image Done before after h reads writes input output = λ files is p a. inl (inl refl)
+  session-done recipe source image NoMemory before after h reads writes input output = λ files is p a. inl (inr refl)
+  session-done recipe source image (Script number) before after h reads writes input output = λ files is p a. inr refl
+  session-done recipe source image (Refused refusal) before after h reads writes input output = λ files is p a. absurd (law (content source files) p refusal a (h.0 files is))
+  session-done recipe source image ReadFault before after h reads writes input output = elim h [
+    | inl unread ↦ absurd (reads unread.0)
+    | inr broken ↦ absurd (input broken.so.fails)
+  ]
+  session-done recipe source image WriteFault before after h reads writes input output = elim h.so [
+    | inl unsaved ↦ absurd (writes unsaved.fails)
+    | inr unsaid ↦ absurd (output unsaid.fails)
+  ]
+  session-done recipe source image _ before after h reads writes input output = absurd h
+
+  interpret-done : (source : Name) (bound : ℕ) (ended : Outcome) (before after : Outside) → InterpretCause source bound ended before after
+      → (ReadFails source before.files after.files → ⊥)
+      → Works before.input after.input
+      → Works before.output after.output
+      → IfKnown source before.files (λ text. (p : ProgramTree) → Accepts text p → IsDone (status_of ended) ⊎ (status_of ended ≡ 7))
+  interpret-done source bound (Exit status) before after h reads input output = λ files is p a. inl (inl refl)
+  interpret-done source bound NoMemory before after h reads input output = λ files is p a. inl (inr refl)
+  interpret-done source bound Cut before after h reads input output = λ files is p a. inr refl
+  interpret-done source bound Undefined before after h reads input output = λ files is p a. inr refl
+  interpret-done source bound (Refused refusal) before after h reads input output = λ files is p a. absurd (law (content source files) p refusal a (h.0 files is))
+  interpret-done source bound ReadFault before after h reads input output = elim h [
+    | inl unread ↦ absurd (reads unread.0)
+    | inr ran ↦ absurd (input ran.holds.0)
+  ]
+  interpret-done source bound WriteFault before after h reads input output = absurd (output h.holds.0)
+  interpret-done source bound _ before after h reads input output = absurd h
 
 generate-done : (start functions : ℕ) (out : Name) (ended : Outcome) (before after : FilesSeen) → GenerateEnds start functions out ended before after → (WriteFails out before after → ⊥)
     → IsDone (status_of ended)
@@ -114,6 +153,9 @@ module _ (law : AcceptedIsNotRefused) (told : CertifiedIsTold) (certify : LogsCe
   ended-completes (Some (generate start functions out)) ended said before after ws ws' h = generate-done start functions out ended before.files after.files h.0
   ended-completes (Some (run image steps)) ended said before after ws ws' h = run-done image steps ended before after h.0
   ended-completes (Some (check source log image)) ended said before after ws ws' h = check-done told certify source log image ended before.files after.files h.0
+  ended-completes (Some (session source image list workers)) ended said before after ws ws' h = λ recipe is.
+      session-done law recipe source image ended before after (h.0.session recipe (record { written = is.written; short = is.short }))
+  ended-completes (Some (interpret source bound)) ended said before after ws ws' h = interpret-done law source bound ended before after h.0.cause
 
   pub completes : (c : Option Command) (ended : Outcome) (said : List ℕ) (before after : Outside) (ws ws' : List W) → Ends named stands_for text_of c ended said before after ws ws'
       → (status : ℕ) (held held' : Option (List ℕ)) (faults faults' : ℕ) → IsReported ended said status held held' faults faults' → (Increased faults faults' → ⊥)

@@ -5,7 +5,7 @@ use Rattle.limits.specs.Limits.{most_sweeps}
 use Rattle.g_graph.specs.declared.steps.Rule.{Rule}
 use Rattle.c_typed.specs.Typed.{ProgramTree}
 use Rattle.elf_file.specs.Loading.{Executable, loaded}
-use Rattle.cc_command.specs.Command.{Command, accept, build, run, generate, check}
+use Rattle.cc_command.specs.Command.{Command, accept, build, run, generate, check, session, interpret}
 use Rattle.cc_watch.specs.Rows.{PlainRow}
 use Rattle.cc_watch.specs.Texts.{log_text}
 use Rattle.cc_source_laws.specs.SourceLaws.{AreBytes}
@@ -58,6 +58,19 @@ pub record CheckCompletes (source log image : Name) (status : ℕ) (before after
       AreBytes (content source files) → (p : ProgramTree) → Accepts (content source files) p → (recipe : List Rule) → length recipe ≤ most_sweeps →
       (rows : List PlainRow) → IsCompiledUnder recipe p (content image files) rows → content log files ≡ log_text rows → IsDone status)
 
+-- a session under a recipe on a known source that is accepted, which ends with 9 too
+abbrev pub SessionCompletes : (list : List ℕ) (source image : Name) (status : ℕ) (before after : Outside) → Type 0
+SessionCompletes list source image status before after =
+    (recipe : List Rule) → IsTextOf recipe list → (ReadFails source before.files after.files → ⊥) → (WriteFails image before.files after.files → ⊥) →
+    Works before.input after.input → Works before.output after.output →
+    IfKnown source before.files (λ text. (p : ProgramTree) → Accepts text p → IsDone status ⊎ (status ≡ 9))
+
+-- a run of a known source that is accepted, which ends with 7 too
+abbrev pub InterpretCompletes : (source : Name) (status : ℕ) (before after : Outside) → Type 0
+InterpretCompletes source status before after =
+    (ReadFails source before.files after.files → ⊥) → Works before.input after.input → Works before.output after.output →
+    IfKnown source before.files (λ text. (p : ProgramTree) → Accepts text p → IsDone status ⊎ (status ≡ 7))
+
 abbrev pub Completes : {W : Type 0} (named : W → List ℕ) → Option Command → (status : ℕ) → (before after : Outside) → List W → Type 0
 Completes named None status before after ws = Unit {0}
 Completes named (Some accept) status before after ws = AcceptCompletes status before.input after.input before.output after.output
@@ -66,3 +79,5 @@ Completes named (Some (build source image list workers name)) status before afte
 Completes named (Some (generate start functions out)) status before after ws = GenerateCompletes out status before.files after.files
 Completes named (Some (run image steps)) status before after ws = RunCompletes image status before after
 Completes named (Some (check source log image)) status before after ws = CheckCompletes source log image status before.files after.files
+Completes named (Some (session source image list workers)) status before after ws = SessionCompletes list source image status before after
+Completes named (Some (interpret source bound)) status before after ws = InterpretCompletes source status before after

@@ -1,10 +1,12 @@
 -- How a command ends: the cause of each outcome, what the outside holds and the watchers stand for then, and what is said.
 use Rattle.std.specs.Prelude.{◌≡◌, ◌⊎◌, ℕ, List, Option, Some, None}
-use Rattle.cc_command.specs.Command.{Command, accept, build, run, generate, check}
+use Rattle.cc_command.specs.Command.{Command, accept, build, run, generate, check, session, interpret}
 use Rattle.cc_watch.specs.Rows.{PlainRow}
 use Rattle.cc_build.specs.AcceptEnds.{AcceptEnds}
 use Rattle.cc_build.specs.BuildEnds.{BuildEndsUnder}
 use Rattle.cc_certify.specs.CheckEnds.{CheckEnds}
+use Rattle.cc_interpret.specs.InterpretEnds.{InterpretEnds}
+use Rattle.cc_script.specs.SessionEnds.{SessionEndsUnder}
 use Rattle.cc_run.specs.RunEnds.{RunEnds}
 use Rattle.cc_run.specs.GenerateEnds.{GenerateEnds}
 use Rattle.cc_report.specs.Outcome.{text_of as line_of}
@@ -30,3 +32,6 @@ module _ {W : Type 0} (named : W → List ℕ) (stands_for : W → List PlainRow
   Ends (Some (run image steps)) ended said before after ws ws' = RunEnds image steps ended before after × (said ≡ line_of ended) × (ws' ≡ ws)
   Ends (Some (check source log image)) ended said before after ws ws' =
       CheckEnds source log image ended before.files after.files × KeepsStreams before after × (said ≡ line_of ended) × (ws' ≡ ws)
+  Ends (Some (session source image list workers)) ended said before after ws ws' =
+      SessionEndsUnder list source image ended before after × (said ≡ line_of ended) × (ws' ≡ ws)
+  Ends (Some (interpret source bound)) ended said before after ws ws' = InterpretEnds source bound ended before after × (said ≡ line_of ended) × (ws' ≡ ws)

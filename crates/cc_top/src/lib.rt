@@ -21,9 +21,11 @@ use board_work::Gate;
 use cc_build::{accept, build};
 use cc_certify::check;
 use cc_command::{Command, parse_command};
+use cc_interpret::interpret;
 use cc_io::{Files, Sink, Source};
 use cc_report::{Ending, Outcome, tell};
 use cc_run::{generated, run};
+use cc_script::session::session;
 use cc_watch::Watcher;
 use std::alloc::Global;
 use std::sync::Wait;
@@ -159,6 +161,17 @@ fn carry_out<H: Threads + Wait + Sync, F: Files, I: Source, O: Sink, G: Gate>(
         } => Ending::Line(generated::write_generated(files, start, functions, out)),
         Command::Check { source, log, image } => {
             Ending::Line(check(alloc, files, source, log, image))
+        }
+        Command::Session {
+            source,
+            image,
+            recipe,
+            workers,
+        } => Ending::Line(session(
+            rt, alloc, files, input, output, source, image, recipe, workers, gate,
+        )),
+        Command::Interpret { source, bound } => {
+            Ending::Line(interpret(alloc, files, input, output, source, bound))
         }
     }
 }

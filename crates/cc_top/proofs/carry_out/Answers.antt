@@ -1,6 +1,6 @@
 use Rattle.std.specs.Prelude.{refl, ℕ, List, [], Option, None, Some}
 use mathlib.Core.Logic.{inl, inr}
-use Rattle.cc_command.specs.Command.{Command, accept, build, run, generate, check}
+use Rattle.cc_command.specs.Command.{Command, accept, build, run, generate, check, session, interpret}
 use Rattle.cc_watch.specs.Rows.{PlainRow}
 use Rattle.cc_top.specs.Ends.{Ends}
 use Rattle.cc_report.specs.Outcome.{text_of as line_of}
@@ -19,6 +19,9 @@ module _ {W : Type 0} (named : W → List ℕ) (stands_for : W → List PlainRow
   memory-ends (Some (generate start functions out)) x ws = (refl, (refl, refl), refl, refl)
   memory-ends (Some (run image steps)) x ws = (record { cause = (refl, refl); files = refl; run = λ files is. tt }, refl, refl)
   memory-ends (Some (check source log image)) x ws = (record { cause = tt; files = refl }, (refl, refl), refl, refl)
+  memory-ends (Some (session source image list workers)) x ws =
+      (record { session = λ recipe is. inl (record { files = refl; input = refl; output = refl }); usage = λ none. (inr refl, refl) }, refl, refl)
+  memory-ends (Some (interpret source bound)) x ws = (record { cause = inl (refl, refl); files = refl }, refl, refl)
 
 pub returns-in-Err : goal.returns-in-Err
 returns-in-Err g c = memory-ends _ _ _ _ _ _

@@ -6,6 +6,7 @@ use Rattle.cc_edit.specs.declared.accepted.AcceptedSource.TheInside.{Inside}
 use Rattle.cc_source.specs.Accepted.{Accepts}
 use Rattle.cc_edit.specs.Accepted.{PlainAccepted}
 use Rattle.cc_edit.specs.Edits.{extent_of, names_of, replaced}
+use Rattle.cc_edit.proofs.Back.{edit_refused}
 use Rattle.cc_edit.proofs.accepted.AcceptedSource.edited.Goals as goal
 
 pub returns-then-not-have_same_names-clause-refused : goal.returns-then-not-have_same_names-clause-refused
@@ -23,8 +24,8 @@ returns-then-not-have_same_names-clause-refused c =
         is = c.in_ok-source.ensures ∙ ap (λ (s : List ℕ). replaced s c.in-Some.extent c.args.text.now) source;
       },
       (
-        c.in_ok-after.after.program,
-        c.in_ok-after.ensures.accepted,
+        c.in-Ok.after.program,
+        c.in-Ok.ensures.accepted,
         λ p. let e = names.1 (ap names_of after-functions ∙ (p ∙ sym (ap names_of old-functions))) in grind (arith, common_steps, e),
       ),
     )
@@ -40,8 +41,19 @@ returns-clause-edited c =
       replaced = record {
         extent = c.in-Some.extent;
         found = sym (c.in-Some.ensures ∙ ap (λ (fs : List FunctionTree). extent_of fs c.args.name.now) functions);
-        is = c.in_ok-after.ensures.same ∙ (c.in_ok-source.ensures ∙ ap (λ (s : List ℕ). replaced s c.in-Some.extent c.args.text.now) source);
+        is = c.in-Ok.ensures.same ∙ (c.in_ok-source.ensures ∙ ap (λ (s : List ℕ). replaced s c.in-Some.extent c.args.text.now) source);
       };
-      accepted = subst (λ (s : List ℕ). Accepts s c.in_ok-after.after.program) (sym c.in_ok-after.ensures.same) c.in_ok-after.ensures.accepted;
+      accepted = subst (λ (s : List ℕ). Accepts s c.in-Ok.after.program) (sym c.in-Ok.ensures.same) c.in-Ok.ensures.accepted;
       same_names = sym (ap names_of after-functions) ∙ (names.0 (grind (arith, common_steps)) ∙ ap names_of old-functions);
     }
+
+pub returns-in-Err-clause-refused : goal.returns-in-Err-clause-refused
+returns-in-Err-clause-refused c =
+    let functions = c.deref.ensures.value ∙ (ap (λ (i : Inside). i.typed.functions) c.self-inside.view_is ∙ ap (λ (a : PlainAccepted). a.program.functions) c.self.view_is) in
+    let source = c.deref-2.ensures.value ∙ (ap (λ (i : Inside). i.source.items) c.self-inside.view_is ∙ ap (λ (a : PlainAccepted). a.source) c.self.view_is) in
+    edit_refused c.in-Err.fault c.args.self.now c.args.name.now c.args.text.now c.in_ok-source.source.items c.in-Err.ensures.refused
+    (record {
+      extent = c.in-Some.extent;
+      found = sym (c.in-Some.ensures ∙ ap (λ (fs : List FunctionTree). extent_of fs c.args.name.now) functions);
+      is = c.in_ok-source.ensures ∙ ap (λ (s : List ℕ). replaced s c.in-Some.extent c.args.text.now) source;
+    })

@@ -1,0 +1,17 @@
+mod Heard
+mod Steps
+mod Reached
+mod Operators
+mod ExprSteps
+mod StmtSteps
+mod BaseSteps
+mod Statements
+mod CallSteps
+mod Layouts
+mod Groups
+mod Arguments
+mod Frames
+mod Newest
+mod Ports
+mod Dispatch
+mod Characters

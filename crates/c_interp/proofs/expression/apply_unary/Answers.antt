@@ -1,0 +1,12 @@
+use Rattle.std.proofs.Common.{refl}
+use Rattle.c_interp_def.specs.ExprTasks.{expr_task_run}
+use Rattle.c_interp_def.specs.ExprTasks as task
+use Rattle.c_interp.proofs.ExprSteps.{unary_step}
+use Rattle.c_interp.proofs.Steps.{none_taken}
+use Rattle.c_interp.proofs.expression.apply_unary.Goals as goal
+
+pub returns-in_default : goal.returns-in_default
+returns-in_default c = λ p n. none_taken p n c.args.machine.now c.args.machine.now (expr_task_run p n (task.unary c.args.op c.args.t.now c.args.u.now)) c.in_default.ensures.cases.0 (λ x. refl)
+
+pub returns : goal.returns
+returns c = λ p n. unary_step p n c.give.result c.args.machine.now c.give.new.machine c.pop.new.self c.in-Some.v c.args.op c.args.t.now c.args.u.now c.unary.result c.in-Some.ensures.items (λ s. c.unary.ensures s c.requires.pure) (c.give.ensures p n)

@@ -1,0 +1,12 @@
+use Rattle.std.proofs.Common.{ap}
+use Rattle.std.specs.Prelude.{Some}
+use Rattle.c_interp.specs.Machines.{config_of}
+use Rattle.c_interp.specs.Steps.{set_run}
+use Rattle.c_interp.proofs.Steps.{undefined_step, same_step}
+use Rattle.c_interp.proofs.variable.set.Goals as goal
+
+pub returns-in-Some : goal.returns-in-Some
+returns-in-Some c = λ p n. same_step p n c.set_value.result c.args.machine.now c.set_value.new.machine (set_run c.args.slot c.args.v c.args.given) (set_run c.args.slot (Some c.in-Some.v) c.args.given) (λ m i held. ap (λ o. set_run c.args.slot o c.args.given (config_of c.args.machine.now m i)) c.in-Some.is) (c.set_value.ensures p n)
+
+pub returns-in-None : goal.returns-in-None
+returns-in-None c = λ p n. undefined_step p n c.args.machine.now c.args.machine.now (set_run c.args.slot c.args.v c.args.given) (λ m i held. ap (λ o. set_run c.args.slot o c.args.given (config_of c.args.machine.now m i)) c.in-None.is)

@@ -1,0 +1,6 @@
+pub mod Interpreted
+pub mod Machines
+pub mod Steps
+pub mod Calls
+pub mod Ports
+pub mod Begun

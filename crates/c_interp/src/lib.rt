@@ -1,0 +1,25 @@
+//! The source's own run, defined or not, from an input to an output.
+//! Promise: `interpret` ends as the definition of the run says, and the output has gained what the
+//! run writes.
+//! Always: calls and statements are kept on a list of its own, and not on the machine's stack.
+#![tactic(auto)]
+
+mod answer;
+mod begin;
+mod calls;
+mod evaluate;
+mod expression;
+mod frame;
+mod machine;
+mod operands;
+mod run;
+mod statement;
+mod step;
+mod stop;
+mod streams;
+mod task;
+mod turns;
+mod variable;
+
+pub use run::interpret;
+pub use stop::Ending;

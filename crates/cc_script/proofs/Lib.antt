@@ -1,0 +1,10 @@
+mod Answering
+mod Reading
+mod Ends
+mod Building
+mod Same
+mod SessionLaws
+mod Under
+mod Opening
+mod Making
+mod Refusing
