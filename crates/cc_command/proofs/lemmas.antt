@@ -1,0 +1,2 @@
+pub mod AppReads
+pub mod ReadingLemmas
