@@ -1,2 +1,3 @@
 mod Recipes
 mod MadeRows
+mod RecipeTexts
