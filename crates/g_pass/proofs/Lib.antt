@@ -3,3 +3,5 @@ mod Texts
 mod Swept
 mod OneRecipe
 mod Inlined
+mod Folds
+mod FastSweeps

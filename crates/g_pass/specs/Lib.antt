@@ -1,2 +1,3 @@
 pub mod Recipe
 pub mod Sweep
+pub mod Fast

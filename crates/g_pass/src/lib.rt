@@ -5,6 +5,7 @@
 #![tactic(auto)]
 
 mod callee;
+mod fast;
 pub mod laws;
 mod names;
 mod recipe;

@@ -3,8 +3,8 @@
 //! Always: a sweep begins with the lambda that the one before it made.
 #![tactic(auto)]
 
-mod steps;
+mod replay;
 mod sweeps;
 
-pub use steps::replayed;
+pub use replay::replayed;
 pub use sweeps::{SweepCount, sweep_counts};

@@ -1,0 +1,6 @@
+mod ShownLemmas
+mod RowLemmas
+mod GoneLemmas
+mod WalkLemmas
+mod StoreLemmas
+mod StepLemmas

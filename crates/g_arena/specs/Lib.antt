@@ -1,0 +1,4 @@
+pub mod Gone
+pub mod Seen
+pub mod Rows
+pub mod Stores

@@ -1,0 +1,11 @@
+pub mod SeenLemmas
+pub mod KindLemmas
+pub mod UseLemmas
+pub mod EditLemmas
+pub mod ResultLemmas
+pub mod ReadLemmas
+pub mod ChangeLemmas
+pub mod FollowLemmas
+pub mod SlotChangeLemmas
+pub mod OutputLemmas
+pub mod ArgumentLemmas

@@ -1,0 +1,7 @@
+mod NameLemmas
+mod CellLemmas
+mod SiteLemmas
+mod MoveLemmas
+mod RowLemmas
+mod StoredLemmas
+mod MadeLemmas

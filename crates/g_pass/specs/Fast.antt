@@ -1,0 +1,32 @@
+-- Which rules are swept over an arena, and a sweep of a rule as the fold of its test and its change.
+use Rattle.std.specs.Prelude.{◌≡◌, ℕ, Bool, true, false, List, IsTrue}
+use Rattle.g_graph.specs.declared.steps.Rule.{Rule}
+use Rattle.g_graph.specs.declared.steps.Rule.TheVariants.{Cne, Dne, Inv, Inline}
+use Rattle.g_graph.specs.declared.steps.Step.{Step}
+use Rattle.g_graph.specs.Plain.{PlainLambda}
+use Rattle.g_graph.specs.Ids.{region_ids}
+use Rattle.g_graph.specs.WellFormed.{IsWellFormed}
+use Rattle.r_sweep_def.specs.Swept.{Change, swept_by}
+use Rattle.g_pass_def.specs.Sweep.{sweep, in_order}
+use Rattle.g_pass.specs.Sweep.{applies, applied, rules}
+
+abbrev pub is_fast : Rule → Bool
+is_fast Cne = true
+is_fast Dne = true
+is_fast Inv = true
+is_fast _ = false
+
+-- what such a rule makes of a well-formed lambda is well formed
+abbrev pub FastRulesKeep : Type 0
+FastRulesKeep = (r : Rule) (n : ℕ) (l : PlainLambda) → IsTrue (is_fast r) → IsWellFormed l → IsWellFormed (applied r n l)
+
+-- the test and the change of a rule of the table
+abbrev pub change_of : Rule → Change
+change_of r = record { rule = r; applies = applies r; changed = applied r }
+
+-- A sweep of a rule that looks at its lambda alone is a fold.
+abbrev pub SweepsAreFolds : Type 0
+SweepsAreFolds =
+    (r : Rule) → (r ≡ Inline → ⊥) → (callees : List PlainLambda) (l : PlainLambda) (steps : List Step) →
+    let s = swept_by (change_of r) (in_order rules r (region_ids l.body)) (record { lambda = l; steps = steps }) in
+    sweep rules callees (record { lambda = l; steps = steps }) r ≡ record { lambda = s.lambda; steps = s.steps }

@@ -1,0 +1,121 @@
+//! Sweeps over an arena of the lambda, which take time linear in it.
+
+ghost use Rattle.std.specs.Prelude.{◌≡◌, ◌<◌, ◌++◌, ℕ, List, take, IfOk, OnErr, OnOk, IsTrue};
+ghost use Rattle.g_graph.specs.Ids.{region_ids};
+ghost use Rattle.g_graph.specs.Plain.{PlainLambda};
+ghost use Rattle.g_graph.specs.WellFormed.{IsWellFormed};
+ghost use Rattle.g_graph.specs.declared.steps.Step.{Step};
+ghost use Rattle.g_arena_def.specs.Flat.{StandsFor};
+ghost use Rattle.g_pass_def.specs.Sweep.{in_order};
+ghost use Rattle.r_sweep_def.specs.Swept.{swept_by};
+ghost use Rattle.r_sweep_laws.specs.Fast.{HasSwept, IsWhole};
+ghost use Rattle.g_pass.specs.Fast.{change_of, is_fast, FastRulesKeep};
+ghost use Rattle.g_pass.specs.Sweep.{rules};
+
+use g_arena::Arena;
+use g_graph::{Lambda, Rule, Step};
+use no_memory::NoMemory;
+use std::alloc::Global;
+use std::marker::Brand;
+use std::sync::ledger::{Blank, Ledger};
+use steps::Steps;
+
+/// Whether a sweep of the rule goes over an arena.
+pub const fn is_fast(rule: Rule) -> bool
+    ensures { result ≡ is_fast rule }
+{
+    matches!(rule, Rule::Cne | Rule::Dne | Rule::Inv)
+}
+
+/// What a sweep of such a rule makes of a lambda. The steps that applied are appended to the log.
+/// `NoMemory` only where the allocator has none, or where 32 bits do not count what a node or a
+/// region has; the lambda is then given up, and the log is as it was.
+pub fn swept_fast(
+    alloc: Global,
+    rule: Rule,
+    lambda: Lambda,
+    log: &mut Vec<Step>,
+) -> Result<Lambda, NoMemory>
+    requires fast { IsTrue (is_fast rule) }
+    requires well_formed { IsWellFormed lambda }
+    ensures ok { IfOk result (λ made. record { lambda = made; steps = log.new.items } ≡
+        swept_by (change_of rule) (in_order rules rule (region_ids lambda.body))
+        (record { lambda = lambda; steps = log.old.items })) }
+    ensures kept { IfOk result (λ made. IsWellFormed made) }
+    ensures err { OnErr result (log.new.items ≡ log.old.items) }
+{
+    let len = log.len();
+    match swept_in::<Brand>(alloc, Blank::new(1), rule, lambda, log) {
+        Ok(made) => Ok(made),
+        Err(fault) => {
+            log.truncate(len);
+            Err(fault)
+        }
+    }
+}
+
+// The sweep, with its looks counted in a ledger of its own. After NoMemory the log has steps more.
+fn swept_in<L: Ledger>(
+    alloc: Global,
+    blank: Blank,
+    rule: Rule,
+    lambda: Lambda,
+    log: &mut Vec<Step>,
+) -> Result<Lambda, NoMemory>
+    requires name { blank.name ≡ L.name }
+    requires parts { blank.parts ≡ L.parts }
+    requires some { 0 < blank.parts }
+    requires fast { IsTrue (is_fast rule) }
+    requires well_formed { IsWellFormed lambda }
+    ensures ok { IfOk result (λ made. record { lambda = made; steps = log.new.items } ≡
+        swept_by (change_of rule) (in_order rules rule (region_ids lambda.body))
+        (record { lambda = lambda; steps = log.old.items })) }
+    ensures kept { IfOk result (λ made. IsWellFormed made) }
+    ensures err { OnErr result ((added : List Step) × (log.new.items ≡ log.old.items ++ added)) }
+{
+    fast_rules_keep();
+    let mut looks = Steps::<L>::new(blank);
+    let mut arena = Arena::of(alloc, lambda, &mut looks)?;
+    match sweep_arena(alloc, rule, &mut arena, log, &mut looks) {
+        Ok(()) => arena.into_lambda(&mut looks),
+        Err(fault) => {
+            drop(arena);
+            Err(fault)
+        }
+    }
+}
+
+// The sweep of a rule over an arena.
+fn sweep_arena<L: Ledger>(
+    alloc: Global,
+    rule: Rule,
+    arena: &mut Arena,
+    log: &mut Vec<Step>,
+    looks: &mut Steps<L>,
+) -> Result<(), NoMemory>
+    requires fast { IsTrue (is_fast rule) }
+    requires whole { IsWhole arena.old }
+    ensures ok { (l : PlainLambda) → StandsFor arena.old l → IsWellFormed l → OnOk result
+        (HasSwept (change_of rule) (in_order rules rule (region_ids l.body)) l log.old.items
+        arena.new log.new.items) }
+    ensures err { (l : PlainLambda) → StandsFor arena.old l → IsWellFormed l → OnErr result
+        ((count : ℕ) × HasSwept (change_of rule)
+        (take count (in_order rules rule (region_ids l.body))) l log.old.items
+        arena.new log.new.items) }
+{
+    match rule {
+        Rule::Cne => r_cne_sweep::sweep_fast(alloc, arena, log, looks),
+        Rule::Dne => r_dne_sweep::sweep_fast(alloc, arena, log, looks),
+        Rule::Inv => r_inv_sweep::sweep_fast(alloc, arena, log, looks),
+        _ => unreachable!(),
+    }
+}
+
+// What such a rule makes of a well-formed lambda is well formed.
+fn fast_rules_keep()
+    ensures { FastRulesKeep }
+{
+    r_cne::laws::cne_keeps_meaning();
+    r_dne::laws::dne_keeps_meaning();
+    r_inv::laws::inv_keeps_meaning();
+}

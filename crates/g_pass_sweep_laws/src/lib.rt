@@ -1,4 +1,0 @@
-//! Laws of sweeps. Nothing in it runs.
-#![tactic(auto)]
-
-pub mod laws;

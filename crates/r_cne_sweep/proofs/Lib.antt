@@ -1,0 +1,5 @@
+mod Keys
+mod Values
+mod After
+mod Visits
+mod Going

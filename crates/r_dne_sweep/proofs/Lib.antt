@@ -1,0 +1,9 @@
+mod Judged
+mod Gammas
+mod EntryJudged
+mod GammaSteps
+mod VariableGoes
+mod Loops
+mod Front
+mod Visits
+mod Going

@@ -1,0 +1,10 @@
+mod Lists
+mod Alike
+mod Named
+mod InputKinds
+mod Carrying
+mod Moves
+mod Visits
+mod Asked
+mod Ports
+mod Going

@@ -1,0 +1,12 @@
+pub mod Walks
+pub mod Steps
+pub mod Sizes
+pub mod Names
+pub mod Whole
+pub mod Moves
+pub mod Edits
+pub mod Uses
+pub mod ExitSteps
+pub mod Fits
+pub mod EntrySteps
+pub mod VariableSteps

@@ -1,0 +1,2 @@
+//! Laws of walks along the nodes of a list, and of what a sweep there costs. Nothing in it runs.
+#![tactic(auto)]
