@@ -15,3 +15,4 @@ mod Newest
 mod Ports
 mod Dispatch
 mod Characters
+mod Known

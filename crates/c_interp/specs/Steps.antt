@@ -15,7 +15,7 @@ use Rattle.c_interp_store.specs.declared.store.Store.{Store}
 use Rattle.c_interp_store.specs.Holding.{Opened, Holds}
 use Rattle.c_interp_value.specs.Operators.{used_value}
 use Rattle.c_mean.specs.Expressions.{branched}
-use Rattle.c_mean.specs.Statements.{Flow, normal}
+use Rattle.c_mean.specs.Statements.{Flow, normal, returned}
 use Rattle.c_interp_def.specs.Configurations.{Configuration, Reached, reaches, with_slots, with_operands, on_operand}
 use Rattle.c_interp_def.specs.ExprTasks.{evaluate, test}
 use Rattle.c_interp_def.specs.StmtTasks.{Task, of_expr, task_run, tasks_run}
@@ -74,6 +74,10 @@ tested_run p n b = tasks_do p n (of_expr (test (type_of b)) ∷ of_expr (evaluat
 -- a value becomes an operand, where there is one
 abbrev pub give_run : Option Value → Configuration → Answer Reached
 give_run v x = on_defined v (λ w. reaches normal (with_operands x (w ∷ x.operands)))
+
+-- a return with a value, where there is one
+abbrev pub return_run : Value → Configuration → Answer Reached
+return_run v x = on_defined (used_value v) (λ w. reaches (returned (Some w)) x)
 
 -- one of two tasks, where it is known which
 abbrev pub choose_run : Option Bool → (chosen otherwise : Configuration → Answer Reached) → Configuration → Answer Reached

@@ -6,8 +6,10 @@
 
 mod begin;
 mod calls;
+mod evaluate;
 mod expression;
 mod frame;
+mod known;
 mod machine;
 mod operands;
 mod part;

@@ -6,6 +6,6 @@ mod ops;
 mod reading;
 mod writing;
 
-pub use ops::{binary_name, binary_named, unary_name, unary_named};
+pub use ops::{binary_named, unary_named};
 pub use reading::{Named, ReadFault, origin_named, read};
-pub use writing::{push_op, write_lambda};
+pub use writing::write_lambda;

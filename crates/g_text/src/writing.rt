@@ -159,9 +159,7 @@ fn push_inputs(out: &mut Vec<u8>, origins: &[Origin]) -> Result<(), NoMemory>
     }
 }
 
-/// Appends the name of an op and, where it has one, its number. `NoMemory` only where the allocator
-/// has none; the name may then be there.
-pub fn push_op(out: &mut Vec<u8>, op: Op) -> Result<(), NoMemory>
+fn push_op(out: &mut Vec<u8>, op: Op) -> Result<(), NoMemory>
     ensures { OnOk result (out.new.items ≡ out.old.items ++ op_text op) }
 {
     match op {

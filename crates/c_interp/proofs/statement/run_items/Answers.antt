@@ -1,20 +1,15 @@
-use Rattle.std.proofs.Common.{◌∙◌, sym}
-use Rattle.std.proofs.Common.{ap₂}
-use Rattle.std.proofs.lemmas.List.{length-map}
-use Rattle.c_interp_def.specs.Laws.{normally}
-use Rattle.c_interp_def.specs.StmtTasks.{items_tasks, tasks_run}
-use Rattle.c_interp_expand.specs.TaskViews.{slot_of}
-use Rattle.c_interp_def.proofs.StmtLaws.{items-expand}
+use Rattle.std.proofs.Common.{◌≡◌}
+use Rattle.c_typed.specs.Typed.{stmt_then}
 use Rattle.c_typed.specs.StmtViews.{items_of}
-use Rattle.c_interp_def.specs.StmtTasks as stmt
-use Rattle.c_interp_def.specs.StmtTasks.{stmt_task_run}
-use Rattle.c_interp.specs.Machines.{config_of}
-use Rattle.c_interp.proofs.Steps.{put_step}
+use Rattle.c_interp.proofs.Known.{first_item}
 use Rattle.c_interp.proofs.statement.run_items.Goals as goal
 
-pub returns : goal.returns
-returns c = λ n.
+pub returns-in-Some : goal.returns-in-Some
+returns-in-Some c =
     let p = c.args.program.typed.now in
-    put_step p n _ c.args.machine.now c.run_items.new.tasks _ (stmt_task_run p n (stmt.run_items (items_of c.args.items.now))) c.requires.normal c.in_ok-run_items.ensures
-    (λ m i. items-expand p n (items_of c.args.items.now) (config_of c.args.machine.now m i)
-    ∙ ap₂ (λ vs k. tasks_run p n (items_tasks vs k (items_of c.args.items.now)) (normally (config_of c.args.machine.now m i))) (sym c.variables.ensures) (length-map c.args.machine.now.slots.items slot_of ∙ sym c.args.machine.now.slots.ok.0 ∙ sym c.len-count.ensures))
+    let n = c.args.program.bound in
+    let here : items_of c.args.items.now ≡ stmt_then c.in-Some.a.now (items_of c.in-Some.rest.now) = ? in
+    first_item p n c.run_first.result c.args.machine.now c.run_first.new.machine (items_of c.args.items.now) c.in-Some.a.now (items_of c.in-Some.rest.now) here c.run_first.ensures
+
+pub returns-in_default : goal.returns-in_default
+returns-in_default c = c.expand_items.ensures c.args.program.bound

@@ -2,10 +2,10 @@ use Rattle.c_interp.proofs.Dispatch.{expr_as}
 use Rattle.c_interp.proofs.step.do_quiet.Goals as goal
 
 pub returns-in-Evaluate : goal.returns-in-Evaluate
-returns-in-Evaluate c = λ n. expr_as c.args.program.typed.now n c.evaluate.result c.args.machine.now c.evaluate.new.machine c.args.task _ c.in-Evaluate.is (c.evaluate.ensures c.args.program.typed.now n)
+returns-in-Evaluate c = λ n. expr_as c.args.program.typed.now n c.evaluate.result c.args.machine.now c.evaluate.new.machine c.args.task _ c.in-Evaluate.is (c.evaluate.ensures n)
 
 pub returns-in-Locate : goal.returns-in-Locate
-returns-in-Locate c = λ n. expr_as c.args.program.typed.now n c.locate.result c.args.machine.now c.locate.new.machine c.args.task _ c.in-Locate.is (c.locate.ensures c.args.program.typed.now n)
+returns-in-Locate c = λ n. expr_as c.args.program.typed.now n c.locate.result c.args.machine.now c.locate.new.machine c.args.task _ c.in-Locate.is (c.locate.ensures n)
 
 pub returns-in-DropEach : goal.returns-in-DropEach
 returns-in-DropEach c = λ n. expr_as c.args.program.typed.now n c.drop_each.result c.args.machine.now c.drop_each.new.machine c.args.task _ c.in-DropEach.is (c.drop_each.ensures c.args.program.typed.now n)
