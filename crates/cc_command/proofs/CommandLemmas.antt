@@ -5,7 +5,7 @@ use Rattle.clap.specs.Words.{is_simple, is_simple_and_free}
 use Rattle.clap.proofs.OnLiterals.{clap_on_literals}
 use Rattle.cc_command.specs.Arguments.{rvcc}
 use Rattle.cc_command.specs.Command.{forms}
-use Rattle.cc_command.proofs.lemmas.AppReads.{is_sound}
+use Rattle.cc_command.proofs.AppReads.{is_sound}
 
 pub sound : list_all is_sound forms ≡ true
 sound = refl

@@ -1,14 +1,15 @@
-pub mod lemmas
-mod Classes
-mod Lookups
-mod Rows
-mod Settled
-mod ReadSoFar
-mod AtEnd
-mod Steps
-mod Defined
-mod FormReads
-mod NumberLemmas
-mod Alone
-mod CommandLemmas
-mod CommandRowsLemmas
+pub mod Classes
+pub mod Lookups
+pub mod Rows
+pub mod Settled
+pub mod ReadSoFar
+pub mod AtEnd
+pub mod Steps
+pub mod Defined
+pub mod FormReads
+pub mod AppReads
+pub mod NumberLemmas
+pub mod ReadingLemmas
+pub mod Alone
+pub mod CommandLemmas
+pub mod CommandRowsLemmas

@@ -5,7 +5,7 @@ use Rattle.cc_command.specs.Arguments.{rvcc}
 use Rattle.cc_command.specs.Command.{forms}
 use Rattle.cc_command.specs.Reading.{read_command}
 use Rattle.cc_command.proofs.Alone.{name_followed}
-use Rattle.cc_command.proofs.lemmas.AppReads.{asked, defined}
+use Rattle.cc_command.proofs.AppReads.{asked, defined}
 use Rattle.cc_command.proofs.CommandLemmas.{sound}
 use Rattle.cc_command.proofs.arguments.parse_command.Goals as goal
 

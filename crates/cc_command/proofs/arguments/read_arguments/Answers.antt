@@ -3,7 +3,7 @@ use Rattle.cc_command.specs.Arguments.{rvcc}
 use Rattle.cc_command.specs.Command.{forms}
 use Rattle.cc_command.specs.Reading.{read_command}
 use Rattle.cc_command.proofs.CommandLemmas.{free, simple}
-use Rattle.cc_command.proofs.lemmas.ReadingLemmas.{command-without_fault, none-at_fault}
+use Rattle.cc_command.proofs.ReadingLemmas.{command-without_fault, none-at_fault}
 use Rattle.cc_command.proofs.arguments.read_arguments.Goals as goal
 
 pub returns-in-Ok-clause-command : goal.returns-in-Ok-clause-command

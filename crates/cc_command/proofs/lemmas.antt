@@ -1,2 +1,0 @@
-pub mod AppReads
-pub mod ReadingLemmas

@@ -1,0 +1,6 @@
+mod Cut
+mod WordLemmas
+mod FunctionLemmas
+mod ImageLemmas
+mod Listed
+mod TextLemmas
