@@ -1,8 +1,7 @@
 #!/bin/sh
 # Holds the program g_rows against the tables rows/graphs and rows/rules: each lambda of a graph is read, well formed, and written as
-# it was; a recipe makes of each lambda of a case the steps and the lambda of the table; on all of them a sweep over an arena does what
-# one step by step does. What a source is built to is not compared here: tools/rows.sh compares how many values it has. It prints each
-# difference.
+# it was; a recipe makes of each lambda of a case the steps and the lambda of the table. What a source is built to is not compared
+# here: tools/rows.sh compares how many values it has. It prints each difference.
 set -u
 cd "$(dirname "$0")/.." || exit 1
 script=tools/graphs.sh
@@ -98,8 +97,8 @@ for name in sorted(os.listdir(os.path.join(rows, "rules"))):
         for number, text in before.items():
             called = [line for callee in taken[number] for line in after[callee]]
             values = text[0].split()[6]
-            row("%s, function %d" % (name, number), called + text + ["check", "recipe " + case["recipe"][0], "print"],
-                ["well formed", values] + told[text[0].split()[2]] + after[number])
+            row("%s, function %d" % (name, number), called + text + ["recipe " + case["recipe"][0], "print"],
+                [values] + told[text[0].split()[2]] + after[number])
 END
 "$program" <"$folder/table" | sed "\$s,^,$script: ," | tee "$folder/answer" || fail "g_rows stopped"
 tail -n 1 "$folder/answer" | grep -q '^tools/graphs.sh: [1-9][0-9]* rows, 0 failed$'

@@ -1,8 +1,7 @@
 #!/bin/sh
 # Compares the compiler with tables of expected values: refusals, images, words of images, runs of images and of sources, what `check`
 # says of logs and images, sessions, and what recipes do to each function, as the log tells it. The tables stand in rows/, with the
-# program read.py that reads them and tries them; two functions are too long for them. Every second build has three workers. It prints
-# each difference.
+# program read.py that reads them and tries them. Every second build has three workers. It prints each difference.
 set -u
 cd "$(dirname "$0")/.." || exit 1
 script=tools/rows.sh
@@ -12,7 +11,6 @@ compiler
 
 PYTHONDONTWRITEBYTECODE=1 python3 - rows "$program" "$folder" <<'END'
 import sys
-from collections import Counter
 sys.path.insert(0, sys.argv[1])
 import read
 
@@ -35,13 +33,6 @@ for name in ("refusals", "images", "runs", "undefined", "bounded", "examples", "
 for name, ending in (("listings", ".list"), ("graphs", ".graph"), ("rules", ".case")):
     for row in read.names(name, ending):
         getattr(comparison, name)(row)
-# Long functions: their values before and after, and how many steps each rule makes.
-LONG = (("int a = getchar();" + " a = a + 7;" * 4000 + " return a;", "cne,dne", "16009 8011", {"cne": 3999, "dne": 3999}),
-        ("int a = getchar(), k = 5;" + " if (a) a = a * 3;" * 200 + " return a + k;", "inv,dne", "5413 2413", {"inv": 200, "dne": 200}))
-for body, recipe, values, steps in LONG:
-    _, report, _ = comparison.build(b"int main(void) { %s }" % body.encode(), recipe, log=True)
-    first, *rest = report.splitlines()
-    comparison.same("a long function, " + recipe, ("function main " + values, steps), (first, Counter(line.split()[0] for line in rest)))
 print("tools/rows.sh: %d compared, %d differ" % (comparison.count, comparison.bad))
 sys.exit(comparison.bad > 0)
 END

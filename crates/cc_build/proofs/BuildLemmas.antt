@@ -1,12 +1,12 @@
 -- How a build ends.
 use Rattle.std.proofs.Common.{◌≡◌, ◌≢◌, ◌⊎◌, ℕ, ◌≤◌, true, false, List, Option, length, take, option_map, refl, ap, sym, ◌∙◌, subst, inl, inr}
 use Rattle.std.proofs.lemmas.Bool.{false≢true}
+use Rattle.limits.specs.Limits.{most_sweeps}
 use Rattle.g_graph.specs.declared.steps.Rule.{Rule}
 use Rattle.cc_io.specs.Files.{Name, FileSet, put_file}
-use Rattle.g_pass.specs.Recipe.{OneRecipe}
+use Rattle.g_pass.specs.Recipe.{recipe_text, OneRecipe}
 use Rattle.cc_watch.specs.Rows.{PlainRow}
-use Rattle.cc_compile.specs.RecipeText.{IsTextOf}
-use Rattle.cc_build.specs.BuildEnds.{BuildEnds, BuildEndsUnder, Finishes}
+use Rattle.cc_build.specs.BuildEnds.{BuildEnds, BuildEndsUnder, Finishes, IsTextOf}
 use Rattle.cc_report.specs.Outcome.{text_of as line_of}
 use Rattle.cc_outside.specs.Outside.{FilesSeen}
 use Rattle.cc_build.specs.Compiled.{WasCompiled, rows_in}
@@ -21,6 +21,11 @@ pub a_prefix : (image : Name) (read bytes : List ℕ) (known known' : Option Fil
     → (known' ≡ known) ⊎ ((count : ℕ) × (known' ≡ option_map (put_file image (take count bytes)) known))
 a_prefix image read bytes known known' same (inl kept) = inl kept
 a_prefix image read bytes known known' same (inr cut) = inr (cut.0, cut.2 ∙ ap (λ b. option_map (put_file image (take cut.0 b)) known) same)
+
+-- ---- a text that is of no recipe
+
+pub no_recipe : (text : List ℕ) → ((rules : List Rule) → length rules ≤ most_sweeps → text ≢ recipe_text rules) → (recipe : List Rule) → IsTextOf recipe text → ⊥
+no_recipe text none recipe is = none recipe is.short is.written
 
 module _ {W : Type 0} (named : W → List ℕ) (stands_for : W → List PlainRow → Type 0) (text_of : W → List PlainRow → List ℕ) where
   abbrev Ended : List Rule → Option (List ℕ) → (source image : Name) → Outcome → List ℕ → FilesSeen → FilesSeen → List W → List W → Type 0

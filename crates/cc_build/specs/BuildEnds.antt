@@ -1,11 +1,12 @@
 -- How `build` ends: the cause of each outcome, and what the files hold and the watchers stand for then.
-use Rattle.std.specs.Prelude.{◌≡◌, ◌≢◌, ◌⊎◌, ℕ, true, List, Option}
+use Rattle.std.specs.Prelude.{◌≡◌, ◌≢◌, ◌≤◌, ◌⊎◌, ℕ, true, List, length, Option}
 use Rattle.std.specs.Option.{ForSome}
+use Rattle.limits.specs.Limits.{most_sweeps}
 use Rattle.c_typed.specs.Typed.{ProgramTree}
 use Rattle.g_graph.specs.declared.steps.Rule.{Rule}
+use Rattle.g_pass.specs.Recipe.{recipe_text}
 use Rattle.cc_source.specs.Accepted.{Accepts}
 use Rattle.cc_compile.specs.Compiled.{IsImageUnder, rows_of}
-use Rattle.cc_compile.specs.RecipeText.{IsTextOf}
 use Rattle.cc_emit_def.specs.Image.{lambdas_of}
 use Rattle.cc_source_keeps.specs.Meaning.{KeepsMeaning}
 use Rattle.cc_watch.specs.Rows.{PlainRow}
@@ -19,6 +20,11 @@ use Rattle.cc_report.specs.declared.outcome.Outcome.{Outcome}
 use Rattle.cc_report.specs.declared.outcome.Outcome.TheVariants.{Done, Usage, ReadFault, WriteFault, Refused, NoMemory}
 
 -- ---- under a recipe
+
+-- the text of a recipe
+pub record IsTextOf (recipe : List Rule) (text : List ℕ) : Type 0 where
+  pub written : text ≡ recipe_text recipe
+  pub short : length recipe ≤ most_sweeps
 
 -- What a build that was done has left of the source, whose text is that of its file where the files are known: it is
 -- accepted, OUT is exactly what it compiles to under the recipe, every other file is as it was, and on the machine OUT

@@ -1,11 +1,12 @@
 //! The command `build`.
 
-ghost use Rattle.std.specs.Prelude.{◌≡◌, ◌≢◌, ◌<◌, ◌≤◌, ◌+◌, ◌⊎◌, take, option_map, IfOk, IfErr};
+ghost use Rattle.std.specs.Prelude.{◌≡◌, ◌≢◌, ◌<◌, ◌≤◌, ◌+◌, ◌⊎◌, List, take, option_map, IfOk, IfErr, IfSome, IfNone};
 ghost use Rattle.std.specs.Option.{ForSome};
 ghost use Rattle.limits.specs.Limits.{most_source_bytes, most_workers};
 ghost use Rattle.cc_io.specs.Faults.{Increased};
 ghost use Rattle.cc_io.specs.Files.{content};
-ghost use Rattle.cc_build.specs.BuildEnds.{BuildEnds, BuildEndsUnder, Finishes};
+ghost use Rattle.g_graph.specs.declared.steps.Rule.{Rule};
+ghost use Rattle.cc_build.specs.BuildEnds.{BuildEnds, BuildEndsUnder, Finishes, IsTextOf};
 ghost use Rattle.cc_report.specs.Outcome.{text_of as line_of};
 ghost use Rattle.cc_outside.specs.Outside.{files_seen};
 ghost use Rattle.cc_refusal.specs.Refused.{CompileFails};
@@ -16,7 +17,7 @@ ghost use Rattle.cc_report.specs.declared.outcome.Outcome.TheVariants.{Done};
 use crate::compile::compile_by_workers;
 use crate::watchers::{has_reporter, report_of, tell_all};
 use board_work::Gate;
-use cc_compile::{Compiled, recipe_of};
+use cc_compile::Compiled;
 use cc_io::{Files, save};
 use cc_outside::load::{LoadError, load};
 use cc_report::{Ending, Outcome};
@@ -134,6 +135,15 @@ fn build_under<H: Threads + Wait + Sync, F: Files, G: Gate>(
         Ok(compiled) => finish(alloc, files, image, &compiled, watchers, report),
         Err(outcome) => Ending::Line(outcome),
     }
+}
+
+/// The recipe of a text; none where it is of no recipe.
+#[tactic(auto, using(crate::proofs::BuildLemmas::no_recipe))]
+fn recipe_of(text: &str) -> Option<Recipe>
+    ensures some { IfSome result (λ recipe. IsTextOf recipe text.now) }
+    ensures none { IfNone result ((recipe : List Rule) → IsTextOf recipe text.now → ⊥) }
+{
+    Recipe::read(text)
 }
 
 /// Compiles the file named `source` under the recipe of this text to the file named `image`, by 1

@@ -1,3 +1,2 @@
 mod Recipes
 mod MadeRows
-mod RecipeTexts

@@ -5,11 +5,9 @@
 #![tactic(auto)]
 
 pub mod laws;
-mod recipe;
 mod rows;
 mod source;
 mod typed;
 
-pub use recipe::recipe_of;
 pub use source::{compile, compile_one};
 pub use typed::{Compiled, compile_typed, file_with};

@@ -12,4 +12,4 @@ pub use line::{Line, push_decimal, push_text};
 pub use log_fault::LogFault;
 pub use outcome::{Ending, Outcome};
 pub use refusal::{Refusal, RefusalKind};
-pub use report::{tell, text_of};
+pub use report::tell;

@@ -1,4 +1,5 @@
 //! The lines of reports. They are assembled without memory, so that the end of a command can always
+
 //! be reported.
 
 ghost use Rattle.std.specs.Prelude.{◌≡◌, ◌<◌, ◌≤◌, ◌++◌, ◌∷◌, ◌+◌, [], List, ℕ, length, take, map};

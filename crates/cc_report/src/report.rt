@@ -143,8 +143,8 @@ fn line_of(text: &[u8]) -> Line
     line
 }
 
-/// What is written of this outcome. It takes no memory.
-pub fn text_of(outcome: Outcome) -> Line
+/// What is written of this outcome.
+fn text_of(outcome: Outcome) -> Line
     ensures { result ≡ text_of outcome }
 {
     match outcome {

@@ -20,8 +20,7 @@ abbrev pub later : Option (List ℕ) → Option (List ℕ) → Option (List ℕ)
 later held None = held
 later held (Some bytes) = Some bytes
 
-twice : PutTwice → (image : Name) (first second : List ℕ) (files : Option FileSet) →
-    option_map (put_file image second) (option_map (put_file image first) files) ≡ option_map (put_file image second) files
+twice : PutTwice → (image : Name) (first second : List ℕ) (files : Option FileSet) → option_map (put_file image second) (option_map (put_file image first) files) ≡ option_map (put_file image second) files
 twice put image first second None = refl
 twice put image first second (Some files) = ap Some (put image first second files)
 

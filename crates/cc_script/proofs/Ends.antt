@@ -236,8 +236,7 @@ module _ (put : PutTwice) (begun : PlainSession) (image : Name) (session : Plain
 -- ---- before the first command
 
 module _ (session : PlainSession) (image : Name) (before : Outside) where
-  pub starts : (ahead : List ℕ) (count : ℕ) → ahead ≡ [] → count ≡ 0 →
-      IsPlaying session image session count before (record before { input = record before.input { bytes = prepend ahead before.input.bytes } })
+  pub starts : (ahead : List ℕ) (count : ℕ) → ahead ≡ [] → count ≡ 0 → IsPlaying session image session count before (record before { input = record before.input { bytes = prepend ahead before.input.bytes } })
   starts ahead count none zero = record {
     taken = [];
     input = prepend-none before.input.bytes ∙ (prepend-none (prepend [] before.input.bytes) ∙ ap (λ a. prepend [] (prepend a before.input.bytes)) (sym none));

@@ -79,8 +79,7 @@ module _ (recipe : List Rule) (source image : Name) (before after : Outside) whe
   opens : (session : PlainSession) → IsOpened recipe source before.files.known session → (P : PlainSession → Type 0) → P session → Opens recipe source before P
   opens session o P h = record { text = o.text; read = o.read; accepted = o.accepted; so = subst P o.is h }
 
-  pub ends_opened : (session : PlainSession) (e : Outcome) → IsOpened recipe source before.files.known session → ScriptEnds session image e before after →
-      SessionEnds recipe source image e before after
+  pub ends_opened : (session : PlainSession) (e : Outcome) → IsOpened recipe source before.files.known session → ScriptEnds session image e before after → SessionEnds recipe source image e before after
   ends_opened session outcome.Done o h = opens session o (λ s. ScriptEnds s image outcome.Done before after) h
   ends_opened session (outcome.Script number) o h = opens session o (λ s. ScriptEnds s image (outcome.Script number) before after) h
   ends_opened session outcome.ReadFault o h = inr (opens session o (λ s. ScriptEnds s image outcome.ReadFault before after) h)

@@ -17,8 +17,7 @@ use Rattle.cc_script.specs.ScriptEnds.{GoesOn}
 pub at_front : (command : Command) (before after : Option (List ℕ)) (t : TakesCommand first command before after) (more : List ℕ) → TakesCommand first command (Some (t.bytes ++ more)) (Some more)
 at_front command before after t more = record { bytes = t.bytes; taken = refl; said = t.said }
 
-takes_after : (commands : List Command) (command : Command) (before mid after : Option (List ℕ)) → TakesAll commands before mid → TakesCommand first command mid after →
-    TakesAll (commands ++ command ∷ []) before after
+takes_after : (commands : List Command) (command : Command) (before mid after : Option (List ℕ)) → TakesAll commands before mid → TakesCommand first command mid after → TakesAll (commands ++ command ∷ []) before after
 takes_after [] command before mid after all one = (after, subst (λ m. TakesCommand first command m after) all one, refl)
 takes_after (c ∷ commands) command before mid after all one = (all.0, all.1, takes_after commands command all.0 mid after all.2 one)
 

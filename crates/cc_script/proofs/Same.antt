@@ -173,15 +173,13 @@ module _ (one_program : source.OneProgram) (orders : OrdersAreUnique) (one_image
       let images : x.image ≡ y.image = h.image ∙ sym k.image in
       (refl, ap (λ s. record { session = s; image = x.image }) sessions ∙ ap (λ i. record { session = y.session; image = i }) images)
   one_answer before x y (Replace name text) Replaced NoFunction h k = absurd (not_replaced one_program orders before.session name text one_fault not_refused x.session h.replaced k.0)
-  one_answer before x y (Replace name text) Replaced (Refused r) h k =
-      absurd (not_accepted one_program orders before.session name text one_fault not_refused x.session k.0.cause k.0.new h.replaced k.0.refused)
+  one_answer before x y (Replace name text) Replaced (Refused r) h k = absurd (not_accepted one_program orders before.session name text one_fault not_refused x.session k.0.cause k.0.new h.replaced k.0.refused)
   one_answer before x y (Replace name text) Replaced OtherNames h k = absurd (not_other one_program orders before.session name text one_fault not_refused x.session h.replaced k.0)
   one_answer before x y (Replace name text) NoFunction Replaced h k = absurd (not_replaced one_program orders before.session name text one_fault not_refused y.session k.replaced h.0)
   one_answer before x y (Replace name text) NoFunction NoFunction h k = (refl, h.1 ∙ sym k.1)
   one_answer before x y (Replace name text) NoFunction (Refused r) h k = absurd (none_found one_program orders before.session name text one_fault not_refused k.0.cause k.0.new k.0.refused h.0)
   one_answer before x y (Replace name text) NoFunction OtherNames h k = absurd (none_other one_program orders before.session name text one_fault not_refused k.0 h.0)
-  one_answer before x y (Replace name text) (Refused r) Replaced h k =
-      absurd (not_accepted one_program orders before.session name text one_fault not_refused y.session h.0.cause h.0.new k.replaced h.0.refused)
+  one_answer before x y (Replace name text) (Refused r) Replaced h k = absurd (not_accepted one_program orders before.session name text one_fault not_refused y.session h.0.cause h.0.new k.replaced h.0.refused)
   one_answer before x y (Replace name text) (Refused r) NoFunction h k = absurd (none_found one_program orders before.session name text one_fault not_refused h.0.cause h.0.new h.0.refused k.0)
   one_answer before x y (Replace name text) (Refused r) (Refused s) h k =
       let same = refused_twice one_program orders before.session name text one_fault not_refused h.0.cause k.0.cause h.0.new k.0.new h.0.refused k.0.refused in

@@ -1,8 +1,9 @@
 -- How `session` ends: the cause of each outcome, and what the files, the input and the output hold then.
-use Rattle.std.specs.Prelude.{◌≡◌, ◌⊎◌, ℕ, None, List}
+use Rattle.std.specs.Prelude.{◌≡◌, ◌≤◌, ◌⊎◌, ℕ, None, List, length}
 use Rattle.std.specs.Option.{ForSome}
+use Rattle.limits.specs.Limits.{most_sweeps}
 use Rattle.g_graph.specs.declared.steps.Rule.{Rule}
-use Rattle.cc_compile.specs.RecipeText.{IsTextOf}
+use Rattle.g_pass.specs.Recipe.{recipe_text}
 use Rattle.cc_io.specs.Files.{Name, content}
 use Rattle.cc_outside.specs.Outside.{Outside, IfKnown, ReadFails, Unchanged}
 use Rattle.cc_refusal.specs.Refused.{IsRefused}
@@ -43,6 +44,11 @@ SessionEnds recipe source image outcome.NoMemory before after =
 SessionEnds recipe source image _ before after = ⊥
 
 -- ---- under the text of a recipe
+
+-- the text of a recipe
+pub record IsTextOf (recipe : List Rule) (text : List ℕ) : Type 0 where
+  pub written : text ≡ recipe_text recipe
+  pub short : length recipe ≤ most_sweeps
 
 -- The session ends so under the recipe that the list is of. Where it is of none the arguments are no command.
 pub record SessionEndsUnder (list : List ℕ) (source image : Name) (ended : Outcome) (before after : Outside) : Type 0 where

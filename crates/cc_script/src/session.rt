@@ -1,14 +1,14 @@
 //! The command `session`.
 
-ghost use Rattle.std.specs.Prelude.{◌<◌, ◌≤◌};
+ghost use Rattle.std.specs.Prelude.{◌<◌, ◌≤◌, List, IfSome, IfNone};
 ghost use Rattle.limits.specs.Limits.{most_workers};
+ghost use Rattle.g_graph.specs.declared.steps.Rule.{Rule};
 ghost use Rattle.cc_outside.specs.Outside.{outside_of};
-ghost use Rattle.cc_script.specs.SessionEnds.{SessionEnds, SessionEndsUnder};
+ghost use Rattle.cc_script.specs.SessionEnds.{IsTextOf, SessionEnds, SessionEndsUnder};
 
 use crate::open::open;
 use crate::play::play;
 use board_work::Gate;
-use cc_compile::recipe_of;
 use cc_io::{Files, Sink, Source};
 use cc_report::Outcome;
 use g_pass::Recipe;
@@ -53,13 +53,21 @@ fn session_under<H: Threads + Wait + Sync, F: Files, I: Source, O: Sink, G: Gate
     }
 }
 
+// The recipe of a text; none where it is of no recipe.
+#[tactic(auto, using(crate::proofs::Under::no_recipe))]
+fn recipe_of(text: &str) -> Option<Recipe>
+    ensures some { IfSome result (λ recipe. IsTextOf recipe text.now) }
+    ensures none { IfNone result ((recipe : List Rule) → IsTextOf recipe text.now → ⊥) }
+{
+    Recipe::read(text)
+}
+
 /// Opens a session on the source in the file named `source` under the recipe of this text, and
 /// answers the commands of the script on the input, each by a line on the output, which is handed
 /// over at once. Each `build` creates the file named `image` anew, before its line, with the image
 /// of the session's source; 1 to `MOST_WORKERS` workers make it, each of which passes the gate
-/// before it makes a function. A text of no recipe is usage; no file is opened then. Nothing is
-/// read of the input before the source is accepted, and then only where the command at hand lacks
-/// bytes.
+/// before it makes a function. A text of no recipe is usage; no file is opened then. Nothing is read
+/// of the input before the source is accepted, and then only where the command at hand lacks bytes.
 #[tactic(auto, using(crate::proofs::Under::under_it, crate::proofs::Under::under_none))]
 pub fn session<H: Threads + Wait + Sync, F: Files, I: Source, O: Sink, G: Gate>(
     rt: &H,

@@ -1,5 +1,5 @@
 -- What a rebuild gives, from its parts.
-use Rattle.std.proofs.Common.{◌≡◌, ◌<◌, ◌^◌, ◌∙◌, ℕ, Bool, List, slice_get, refl, sym, subst, arith}
+use Rattle.std.proofs.Common.{◌≡◌, ◌<◌, ◌^◌, ℕ, Bool, List, slice_get, refl, sym, subst, arith}
 use Rattle.std.specs.Prelude.{Option, None, Some, count_by}
 use Rattle.g_graph.specs.declared.steps.Rule.{Rule}
 use Rattle.g_graph.specs.Plain.{PlainLambda, PlainOptimised}
@@ -12,7 +12,6 @@ use Rattle.g_pass.specs.Sweep.{rules}
 use Rattle.c_typed.specs.Typed.{ProgramTree}
 use Rattle.cc_source.specs.Accepted.{Accepts}
 use Rattle.cc_emit_def.specs.Image.{file_of_program, lambdas_of, CanEmit}
-use Rattle.cc_compile.specs.Compiled.{IsImageUnder}
 use Rattle.cc_edit.specs.Accepted.{PlainAccepted}
 use Rattle.cc_session.specs.Session as session
 use Rattle.cc_session.specs.Session.{PlainKept, IsKept, IsLast, IsSession}
@@ -47,12 +46,9 @@ module _ (unique : OrdersAreUnique) (now : PlainAccepted) (recipe : List Rule) (
     count = count;
   }
 
-  image-of : (bytes : List ℕ) → bytes ≡ file_of_program (built.omega now.program) (lambdas_of answers) → IsImageUnder recipe now.program bytes
-  image-of bytes file = record { answers = answers; made = made.answered; file = file }
-
-  is-kept : (source : List ℕ) (ls : List PlainLambda) (own : List ℕ) → source ≡ now.source → ls ≡ built.graph now.program →
-      own ≡ file_of_program (built.omega now.program) (lambdas_of answers) → IsKept recipe (record { source = source; lambdas = ls; deps = deps; answers = answers; image = own })
-  is-kept source ls own source-is ls-are file =
+  is-kept : (source : List ℕ) (ls : List PlainLambda) → source ≡ now.source → ls ≡ built.graph now.program →
+      IsKept recipe (record { source = source; lambdas = ls; deps = deps; answers = answers })
+  is-kept source ls source-is ls-are =
       let all = subst (λ (xs : List PlainLambda). AreAnswers rules recipe xs answers) (sym ls-are) made.answered in
       let order = subst (λ (xs : List PlainLambda). IsOrder xs made.ranks deps) (sym ls-are) made.order in
       record {
@@ -61,15 +57,14 @@ module _ (unique : OrdersAreUnique) (now : PlainAccepted) (recipe : List Rule) (
         lambdas_are = ls-are;
         answered = all;
         deps_are = (unique ls all.ranks made.ranks all.deps deps all.order order).1;
-        image_is = image-of own file;
       }
 
-  pub rebuilt : (bytes : List ℕ) (jobs : ℕ) (source : List ℕ) (ls : List PlainLambda) (own : List ℕ) →
-      bytes ≡ file_of_program (built.omega now.program) (lambdas_of answers) → jobs ≡ count_by (λ (b : Bool). b) stale → source ≡ now.source → ls ≡ built.graph now.program →
-      own ≡ bytes → IsRebuiltFrom now recipe last bytes jobs (record { source = source; lambdas = ls; deps = deps; answers = answers; image = own })
-  rebuilt bytes jobs source ls own file count source-is ls-are own-is = record {
-    image = image-of bytes file;
+  pub rebuilt : (bytes : List ℕ) (jobs : ℕ) (source : List ℕ) (ls : List PlainLambda) → bytes ≡ file_of_program (built.omega now.program) (lambdas_of answers) →
+      jobs ≡ count_by (λ (b : Bool). b) stale → source ≡ now.source → ls ≡ built.graph now.program →
+      IsRebuiltFrom now recipe last bytes jobs (record { source = source; lambdas = ls; deps = deps; answers = answers })
+  rebuilt bytes jobs source ls file count source-is ls-are = record {
+    image = record { answers = answers; made = made.answered; file = file };
     are_stale = stale-since jobs count;
     source_is = source-is;
-    is_kept = is-kept source ls own source-is ls-are (own-is ∙ file);
+    is_kept = is-kept source ls source-is ls-are;
   }

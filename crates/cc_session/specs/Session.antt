@@ -10,7 +10,6 @@ use Rattle.g_pass_def.specs.Answers.{AreAnswers}
 use Rattle.g_pass.specs.Sweep.{rules}
 use Rattle.c_typed.specs.Typed.{ProgramTree}
 use Rattle.cc_source.specs.Accepted.{Accepts}
-use Rattle.cc_compile.specs.Compiled.{IsImageUnder}
 use Rattle.cc_edit.specs.declared.fault.EditFault.{EditFault}
 use Rattle.cc_edit.specs.Accepted.{PlainAccepted}
 use Rattle.cc_edit.specs.Edits.{IsEdited, IsEditRefused}
@@ -26,20 +25,18 @@ coded_session =
     code_by (List ℕ × (List Rule × Option (List ℕ))) (coded× (coded_list coded_ℕ) (coded× (coded_list rule.the_row.coded) (coded_option (coded_list coded_ℕ))))
     (λ s. (s.source, (s.recipe, s.last))) (λ p. record { source = p.0; recipe = p.1.0; last = p.1.1 }) (λ _. refl)
 
--- what is kept of the last rebuild: its source, the lambdas of its program, their deps and their answers, and the image
+-- what is kept of the last rebuild: its source, the lambdas of its program, their deps and their answers
 pub record PlainKept : Type 0 where
   pub source : List ℕ
   pub lambdas : List PlainLambda
   pub deps : List (List ℕ)
   pub answers : List PlainOptimised
-  pub image : List ℕ
 
 abbrev pub coded_kept : Coded PlainKept
 coded_kept =
-    code_by (List ℕ × (List PlainLambda × (List (List ℕ) × (List PlainOptimised × List ℕ))))
-    (coded× (coded_list coded_ℕ) (coded× (coded_list coded_lambda) (coded× (coded_list (coded_list coded_ℕ)) (coded× (coded_list coded_optimised) (coded_list coded_ℕ)))))
-    (λ k. (k.source, (k.lambdas, (k.deps, (k.answers, k.image)))))
-    (λ p. record { source = p.0; lambdas = p.1.0; deps = p.1.1.0; answers = p.1.1.1.0; image = p.1.1.1.1 }) (λ _. refl)
+    code_by (List ℕ × (List PlainLambda × (List (List ℕ) × List PlainOptimised)))
+    (coded× (coded_list coded_ℕ) (coded× (coded_list coded_lambda) (coded× (coded_list (coded_list coded_ℕ)) (coded_list coded_optimised))))
+    (λ k. (k.source, (k.lambdas, (k.deps, k.answers)))) (λ p. record { source = p.0; lambdas = p.1.0; deps = p.1.1.0; answers = p.1.1.1 }) (λ _. refl)
 
 -- the lambdas, deps and answers that are kept; none where there was no rebuild
 abbrev pub lambdas_of : Option PlainKept → List PlainLambda
@@ -65,18 +62,10 @@ pub record IsKept (recipe : List Rule) (kept : PlainKept) : Type 0 where
   pub lambdas_are : kept.lambdas ≡ graph program
   pub answered : AreAnswers rules recipe kept.lambdas kept.answers
   pub deps_are : answered.deps ≡ kept.deps
-  pub image_is : IsImageUnder recipe program kept.image
 
 abbrev pub IsLast : (recipe : List Rule) → Option PlainKept → Type 0
 IsLast recipe None = Unit {0}
 IsLast recipe (Some kept) = IsKept recipe kept
-
--- the image that is kept, which is that of this source
-pub record IsImageKept (last : Option PlainKept) (source image : List ℕ) : Type 0 where
-  pub kept : PlainKept
-  pub last_is : last ≡ Some kept
-  pub source_is : kept.source ≡ source
-  pub image_is : image ≡ kept.image
 
 -- The source is accepted as its program, and what is kept of the last rebuild, where there was one, is of the recipe.
 pub record IsSession (now : PlainAccepted) (recipe : List Rule) (last : Option PlainKept) : Type 0 where

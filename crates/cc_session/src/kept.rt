@@ -1,23 +1,22 @@
 //! What is kept of the last rebuild.
 
-ghost use Rattle.std.specs.Prelude.{◌≡◌, map, IfSome};
+ghost use Rattle.std.specs.Prelude.{◌≡◌, map};
 ghost use Rattle.std.specs.Arc.{arc_value};
 ghost use Rattle.call_order.specs.Units.{call_lists};
-ghost use Rattle.cc_session.specs.Session.{answers_of, deps_of, lambdas_of, IsImageKept};
+ghost use Rattle.cc_session.specs.Session.{answers_of, deps_of, lambdas_of};
 
 use g_graph::{Lambda, Optimised};
 use std::marker::Model;
 use std::sync::Arc;
 
-/// What is kept of the last rebuild: its source, the lambdas of its program, the deps of each, what
-/// the recipe made of each, and the image. Contracts see a plain record.
+/// What is kept of the last rebuild: its source, the lambdas of its program, the deps of each, and
+/// what the recipe made of each. Contracts see a plain record.
 #[derive(Drop)]
 pub(crate) struct Kept {
     pub(crate) source: Vec<u8>,
     pub(crate) lambdas: Vec<Lambda>,
     pub(crate) deps: Vec<Vec<u32>>,
     pub(crate) answers: Vec<Arc<Optimised>>,
-    pub(crate) image: Vec<u8>,
 }
 
 impl Model for Kept {
@@ -35,7 +34,6 @@ impl Model for Kept {
       lambdas = k.lambdas.items;
       deps = call_lists k.deps.items;
       answers = map arc_value k.answers.items;
-      image = k.image.items;
     } };
 }
 
@@ -66,15 +64,5 @@ pub(crate) fn answers_of(last: &Option<Kept>) -> &[Arc<Optimised>]
     match last {
         Some(kept) => kept.answers.as_slice(),
         None => &[],
-    }
-}
-
-/// The image that is kept, where it is that of this source.
-pub(crate) fn image_of<'a>(last: &'a Option<Kept>, source: &[u8]) -> Option<&'a [u8]>
-    ensures { IfSome result (λ image. IsImageKept last.now source.now image.now) }
-{
-    match last {
-        Some(kept) if kept.source.as_slice() == source => Some(kept.image.as_slice()),
-        _ => None,
     }
 }

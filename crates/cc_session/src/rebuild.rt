@@ -160,7 +160,6 @@ pub(crate) fn rebuild_from<H: Threads + Wait + Sync, G: Gate>(
     let made = remake(rt, alloc, &graph.lambdas, recipe, last, workers, gate)?;
     let image = file_with(alloc, &graph, &made.answers)?;
     let source = Vec::from_slice(alloc, now.source())?;
-    let own = Vec::from_slice(alloc, &image)?;
     let jobs = count_of(&made.stale);
     let lambdas = into_lambdas(graph);
     let Remade { order, answers, .. } = made;
@@ -171,16 +170,6 @@ pub(crate) fn rebuild_from<H: Threads + Wait + Sync, G: Gate>(
             lambdas,
             deps: order.deps,
             answers,
-            image: own,
         },
     ))
-}
-
-/// A rebuild of the source whose image is kept: a copy of the image, and no function is stale.
-pub(crate) fn rebuild_again(alloc: Global, image: &[u8]) -> Result<Rebuilt, NoMemory>
-    ensures image { IfOk result (λ it. it.image.items ≡ image.now) }
-    ensures jobs { IfOk result (λ it. it.jobs ≡ 0) }
-{
-    let image = Vec::from_slice(alloc, image)?;
-    Ok(Rebuilt { image, jobs: 0 })
 }

@@ -6,13 +6,12 @@ ghost use Rattle.cc_source.specs.Accepted.{Refuses};
 ghost use Rattle.cc_session.specs.Session.{IsAcceptedSource, Replaces, IsReplaceRefused};
 ghost use Rattle.cc_session.specs.Rebuilds.{IsRebuilt};
 
-use crate::kept::{Kept, image_of};
-use crate::rebuild::{Rebuilt, rebuild_again, rebuild_from};
+use crate::kept::Kept;
+use crate::rebuild::{Rebuilt, rebuild_from};
 use board_work::Gate;
 use cc_edit::{AcceptedSource, EditFault};
 use cc_source::CompileFault;
 use g_pass::Recipe;
-use g_pass_order::laws::orders_are_unique;
 use no_memory::NoMemory;
 use std::alloc::Global;
 use std::marker::Model;
@@ -73,8 +72,8 @@ impl Session {
 
     /// Replaces the definition of the first function of a name, from its first token to its closing
     /// brace, by a text. `NoFunction` where no function has the name; `Source` where the new source
-    /// is not accepted, which is given back with its fault; `OtherNames` where the functions that
-    /// it defines, in order, have not the names that they had. `NoMemory` may come in place of any
+    /// is not accepted, which is given back with its fault; `OtherNames` where the functions that it
+    /// defines, in order, have not the names that they had. `NoMemory` may come in place of any
     /// answer. The session is then as it was.
     pub fn replace(&mut self, name: &[u8], text: &[u8]) -> Result<(), EditFault>
         ensures replaced { OnOk result (Replaces self.old name.now text.now self.new) }
@@ -93,10 +92,9 @@ impl Session {
     /// The image of the source under the recipe, as it is made from nothing, and how many functions
     /// were stale: those are made anew, by 1 to `MOST_WORKERS` workers, each in a thread of its own
     /// where one can be made, and of the others the answers are kept. A worker passes the gate for
-    /// each stale function, by its number among them, before it makes it. Where the source is that
-    /// of the last rebuild, the image is a copy of that one's. `NoMemory` only where the allocator
-    /// has none; the session is then as it was. It may wait, and nothing is promised of its
-    /// returning.
+    /// each stale function, by its number among them, before it makes it. `NoMemory` only where the
+    /// allocator has none; the session is then as it was. It may wait, and nothing is promised of
+    /// its returning.
     pub fn rebuild<H: Threads + Wait + Sync, G: Gate>(
         &mut self,
         rt: &H,
@@ -110,10 +108,6 @@ impl Session {
             ≡ record self.old { last = Some self.old.source }) }
         ensures unchanged { OnErr result (self.new ≡ self.old) }
     {
-        orders_are_unique();
-        if let Some(image) = image_of(&self.last, self.current.source()) {
-            return rebuild_again(self.alloc, image);
-        }
         let (it, kept) = rebuild_from(
             rt,
             self.alloc,

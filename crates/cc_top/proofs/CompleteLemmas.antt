@@ -154,7 +154,7 @@ module _ (law : AcceptedIsNotRefused) (told : CertifiedIsTold) (certify : LogsCe
   ended-completes (Some (run image steps)) ended said before after ws ws' h = run-done image steps ended before after h.0
   ended-completes (Some (check source log image)) ended said before after ws ws' h = check-done told certify source log image ended before.files after.files h.0
   ended-completes (Some (session source image list workers)) ended said before after ws ws' h = λ recipe is.
-      session-done law recipe source image ended before after (h.0.session recipe is)
+      session-done law recipe source image ended before after (h.0.session recipe (record { written = is.written; short = is.short }))
   ended-completes (Some (interpret source bound)) ended said before after ws ws' h = interpret-done law source bound ended before after h.0.cause
 
   pub completes : (c : Option Command) (ended : Outcome) (said : List ℕ) (before after : Outside) (ws ws' : List W) → Ends named stands_for text_of c ended said before after ws ws'

@@ -11,11 +11,11 @@ use Rattle.cc_watch.specs.Texts.{log_text}
 use Rattle.cc_source_laws.specs.SourceLaws.{AreBytes}
 use Rattle.cc_source.specs.Accepted.{Accepts}
 use Rattle.cc_compile.specs.Compiled.{IsCompiledUnder}
-use Rattle.cc_compile.specs.RecipeText.{IsTextOf}
 use Rattle.cc_io.specs.Faults.{Increased}
 use Rattle.cc_io.specs.Files.{Name, content}
 use Rattle.cc_outside.specs.Outside.{IfKnown, ReadFails, WriteFails, FilesSeen, Outside, StreamSeen}
 use Rattle.log_judge.specs.Judgement.{Certifies}
+use Rattle.cc_build.specs.BuildEnds.{IsTextOf}
 use Rattle.cc_build.specs.Watchers.{has_reporter}
 
 -- The status is 0, or that of memory that ran out.

@@ -3,5 +3,3 @@ mod Texts
 mod Swept
 mod OneRecipe
 mod Inlined
-mod Folds
-mod FastSweeps

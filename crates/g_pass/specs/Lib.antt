@@ -1,3 +1,2 @@
 pub mod Recipe
 pub mod Sweep
-pub mod Fast

@@ -5,7 +5,6 @@
 #![tactic(auto)]
 
 mod callee;
-mod fast;
 pub mod laws;
 mod names;
 mod recipe;

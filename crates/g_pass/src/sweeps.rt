@@ -1,6 +1,6 @@
 //! Sweeps, and recipes of them.
 
-ghost use Rattle.std.specs.Prelude.{◌≡◌, ◌<◌, ◌^◌, ℕ, map, take, OnOk, OnErr, IfOk, IsTrue};
+ghost use Rattle.std.specs.Prelude.{◌≡◌, ◌<◌, ◌^◌, ℕ, map, take, OnOk, OnErr, IfOk};
 ghost use Rattle.std.specs.Arc.{arc_value};
 ghost use Rattle.std.specs.List.{fold};
 ghost use Rattle.g_graph.specs.Count.{region_values};
@@ -8,14 +8,11 @@ ghost use Rattle.g_graph.specs.Ids.{region_ids};
 ghost use Rattle.g_graph.specs.WellFormed.{IsWellFormed};
 ghost use Rattle.g_pass_def.specs.Answers.{lambdas_of};
 ghost use Rattle.g_pass_def.specs.Sweep.{in_order, optimise, sweep, tried};
-ghost use Rattle.r_sweep_def.specs.Swept.{swept_by};
-ghost use Rattle.g_pass.specs.Fast.{change_of, is_fast};
 ghost use Rattle.g_pass.specs.Sweep.{rules};
 
 use crate::Recipe;
-use crate::fast::{is_fast, swept_fast};
 use crate::rule_step::{is_backward, try_step};
-use g_graph::{Lambda, Optimised, Rule, Step, StepList, copy_of, ids, values};
+use g_graph::{Lambda, Optimised, Rule, Step, StepList, ids, values};
 use no_memory::NoMemory;
 use std::alloc::Global;
 use std::sync::Arc;
@@ -34,57 +31,9 @@ fn numbers(alloc: Global, rule: Rule, lambda: &Lambda) -> Result<Vec<u32>, NoMem
 /// Sweeps a rule over a lambda: tries it at each number that the lambda has at the start, in
 /// pre-order or, for a rule that goes backward, in that order reversed. The callees are what
 /// functions that the lambda calls were made into. The steps that applied are appended to the log.
-/// `NoMemory` only where the allocator has none, or where a node or a region has more than
-/// 4294967295 contents of a kind; the lambda is then the one after the logged steps. A sweep of
-/// `cne`, `dne` or `inv` takes time linear in the lambda, any other one for each of its nodes.
+/// `NoMemory` only where the allocator has none; the lambda is then the one
+/// after the logged steps. It takes time linear in the lambda for each of its nodes.
 pub fn sweep(
-    alloc: Global,
-    rule: Rule,
-    lambda: &mut Lambda,
-    callees: &[Arc<Optimised>],
-    log: &mut Vec<Step>,
-) -> Result<(), NoMemory>
-    requires well_formed { IsWellFormed lambda.old }
-    ensures ok { OnOk result (record { lambda = lambda.new; steps = log.new.items } ≡
-        sweep rules (lambdas_of (map arc_value callees.now))
-        (record { lambda = lambda.old; steps = log.old.items }) rule) }
-    ensures kept { IsWellFormed lambda.new }
-    ensures err { OnErr result ((count : ℕ) ×
-        (record { lambda = lambda.new; steps = log.new.items } ≡
-        fold (tried rules (lambdas_of (map arc_value callees.now)) rule)
-        (record { lambda = lambda.old; steps = log.old.items })
-        (take count (in_order rules rule (region_ids lambda.old.body))))) }
-{
-    if is_fast(rule) {
-        sweep_copy(alloc, rule, lambda, log)
-    } else {
-        sweep_steps(alloc, rule, lambda, callees, log)
-    }
-}
-
-// The sweep over an arena of a copy.
-fn sweep_copy(
-    alloc: Global,
-    rule: Rule,
-    lambda: &mut Lambda,
-    log: &mut Vec<Step>,
-) -> Result<(), NoMemory>
-    requires fast { IsTrue (is_fast rule) }
-    requires well_formed { IsWellFormed lambda.old }
-    ensures ok { OnOk result (record { lambda = lambda.new; steps = log.new.items } ≡
-        swept_by (change_of rule) (in_order rules rule (region_ids lambda.old.body))
-        (record { lambda = lambda.old; steps = log.old.items })) }
-    ensures kept { IsWellFormed lambda.new }
-    ensures err_lambda { OnErr result (lambda.new ≡ lambda.old) }
-    ensures err_log { OnErr result (log.new.items ≡ log.old.items) }
-{
-    let copy = copy_of(alloc, lambda)?;
-    *lambda = swept_fast(alloc, rule, copy, log)?;
-    Ok(())
-}
-
-// The sweep, step by step.
-fn sweep_steps(
     alloc: Global,
     rule: Rule,
     lambda: &mut Lambda,
@@ -108,47 +57,9 @@ fn sweep_steps(
     Ok(())
 }
 
-// The fewest values of a lambda that a recipe sweeps over an arena. To put a smaller one into an
-// arena takes longer than to ask it at each of its nodes.
-const LEAST_VALUES: u64 = 1024;
-
-// Whether a recipe sweeps the rule over an arena of the lambda. What it answers changes no result.
-fn is_put_in(rule: Rule, lambda: &Lambda) -> bool
-    ensures { IsTrue result → IsTrue (is_fast rule) }
-{
-    is_fast(rule) && values(lambda) >= LEAST_VALUES
-}
-
-// What a sweep makes of a lambda, of which no copy is made.
-fn swept(
-    alloc: Global,
-    rule: Rule,
-    lambda: Lambda,
-    callees: &[Arc<Optimised>],
-    log: &mut Vec<Step>,
-) -> Result<Lambda, NoMemory>
-    requires well_formed { IsWellFormed lambda }
-    ensures ok { IfOk result (λ made. record { lambda = made; steps = log.new.items } ≡
-        sweep rules (lambdas_of (map arc_value callees.now))
-        (record { lambda = lambda; steps = log.old.items }) rule) }
-    ensures kept { IfOk result (λ made. IsWellFormed made) }
-{
-    if is_put_in(rule, &lambda) {
-        return swept_fast(alloc, rule, lambda, log);
-    }
-    let mut lambda = lambda;
-    match sweep_steps(alloc, rule, &mut lambda, callees, log) {
-        Ok(()) => Ok(lambda),
-        Err(fault) => {
-            drop(lambda);
-            Err(fault)
-        }
-    }
-}
-
 /// What a recipe makes of a lambda, sweep by sweep: the lambda, the steps that applied, and how
 /// many values the lambda had before them. The callees are what functions that it calls were made
-/// into. `NoMemory` only where `sweep` says so; the lambda is then given up.
+/// into. `NoMemory` only where the allocator has none; the lambda is then given up.
 pub fn optimise(
     alloc: Global,
     lambda: Lambda,
@@ -164,7 +75,7 @@ pub fn optimise(
     let mut lambda = lambda;
     let mut log = Vec::new(alloc);
     for rule in recipe.as_slice() {
-        lambda = swept(alloc, *rule, lambda, callees, &mut log)?;
+        sweep(alloc, *rule, &mut lambda, callees, &mut log)?;
     }
     Ok(Optimised {
         lambda,

@@ -3,8 +3,8 @@
 //! Always: a sweep begins with the lambda that the one before it made.
 #![tactic(auto)]
 
-mod replay;
+mod steps;
 mod sweeps;
 
-pub use replay::replayed;
+pub use steps::replayed;
 pub use sweeps::{SweepCount, sweep_counts};

@@ -1,15 +1,14 @@
-//! The calls of a row. `check` (`arenas`), `values`, `ids`, `print`, `copy` and `same` look at the
-//! lambda: `ids` says how many nodes it has, and the first ten, `copy` whether a copy is equal to
-//! it, and `same` whether the lambda before it is. `numbered N` says whether its nodes from the
-//! number N on are numbered in pre-order, up to its next number.
+//! The calls of a row. `check`, `values`, `ids`, `print`, `copy` and `same` look at the lambda:
+//! `ids` says how many nodes it has, and the first ten, `copy` whether a copy is equal to it, and
+//! `same` whether the lambda before it is. `numbered N` says whether its nodes from the number N on
+//! are numbered in pre-order, up to its next number.
 
-use crate::arenas::{check_of, left};
 use crate::changes::{replace, splice_body, wrap};
 use crate::code::{linear, lines, place_lines};
 use crate::row::Row;
 use crate::rules::{at, recipe, rules, sweep_of};
 use crate::words::{kept_of, unary_of, value_of_one, value_of_two, word_of_two};
-use g_graph::{Lambda, copy_of, equal, ids, values};
+use g_graph::{Lambda, check, copy_of, equal, ids, values};
 use g_text::Named;
 use no_memory::NoMemory;
 
@@ -51,8 +50,7 @@ fn call_on_last(row: &mut Row, word: &str, rest: &str) -> Result<(), NoMemory> {
 fn look(row: &mut Row, last: &Named, word: &str, rest: &str) -> Result<(), NoMemory> {
     let lambda = &last.lambda;
     match word {
-        "check" => check_of(row, lambda),
-        "left" => left(row, lambda, rest),
+        "check" => row.say_whether(check(lambda), "well formed", "not well formed"),
         "values" => row.say_number(values(lambda)),
         "ids" => say_ids(row, last),
         "numbered" => numbered(row, last, rest),

@@ -5,12 +5,11 @@
 //! A row begins with a line `row NAME`. A line that begins with `=` and a blank is wanted of it. A
 //! line `function ..` begins the text of a lambda, the lines of which that follow begin with a
 //! blank; between two `@` stand a count, a blank and a text, which the line repeats that often.
-//! Each other line is a call (`calls`, `arenas`, `rules`, `changes`, `code`, `words`), most on the
-//! last lambda. A row fails where what its calls say is not what is wanted of it. The last line
-//! counts the rows.
+//! Each other line is a call (`calls`, `rules`, `changes`, `code`, `words`), most on the last
+//! lambda. A row fails where what its calls say is not what is wanted of it. The last line counts
+//! the rows.
 #![tactic(auto)]
 
-mod arenas;
 mod calls;
 mod changes;
 mod code;

@@ -10,15 +10,18 @@ ghost use Rattle.log_replay.specs.Fault.{StepsFail};
 
 use crate::fault::ReplayFault;
 use crate::laws::sweeps_replay;
-use g_graph::{Lambda, Optimised, Rule, Step, copy_of};
+use g_graph::{Lambda, Optimised, Rule, Step, copy_of, values};
 use g_pass::{step, sweep};
 use no_memory::NoMemory;
 use std::alloc::Global;
 use std::sync::Arc;
 
-// The fewest steps of a series for which a sweep is tried. A sweep of these rules takes time linear
-// in the lambda, as a step does, so it costs no more than the steps of the series one by one.
+// The fewest steps of a series for which a sweep is tried.
 const LEAST_SERIES: usize = 16;
+
+// The most values of a lambda for each step of a series for which a sweep is tried: a sweep takes
+// time linear in the lambda for each of its nodes, and a step once.
+const MOST_VALUES: u64 = 8;
 
 // How many of the first steps have the rule of the first one.
 fn series_length(steps: &[Step]) -> usize
@@ -37,8 +40,10 @@ fn series_length(steps: &[Step]) -> usize
 
 // Whether a sweep of the rule is tried where a log has a series of so many steps of it. What it
 // answers changes no lambda and no fault.
-fn is_swept(rule: Rule, count: usize) -> bool {
-    matches!(rule, Rule::Cne | Rule::Dne) && count >= LEAST_SERIES
+fn is_swept(rule: Rule, count: usize, lambda: &Lambda) -> bool {
+    matches!(rule, Rule::Cne | Rule::Dne)
+        && count >= LEAST_SERIES
+        && values(lambda) / MOST_VALUES <= count as u64
 }
 
 // Whether steps begin with these ones.
@@ -93,7 +98,7 @@ fn made_at_once(
     ensures kept { IsWellFormed lambda.new }
 {
     let rule = steps[0].rule;
-    if !is_swept(rule, count) {
+    if !is_swept(rule, count, lambda) {
         return Ok(0);
     }
     made_by_sweep(alloc, rule, lambda, callees, steps)

@@ -1,8 +1,8 @@
--- All watchers were given the rows so far.
 use Rattle.std.proofs.Common.{take}
 use Rattle.cc_build.specs.Watchers.{AllHaveGained}
 use Rattle.cc_build.proofs.watchers.tell_rows.Given as goal
 
+-- all watchers were given the rows so far
 abbrev pub invariant-loop-row : goal.invariant-loop-row
 invariant-loop-row g l =
     AllHaveGained (λ b. (goal.Watcher-dyn g (b.vtable, b.value)).named b.value) (λ b. (goal.Watcher-dyn g (b.vtable, b.value)).stands_for b.value)

@@ -16,6 +16,5 @@ returns-in-Ok g c =
 pub returns-in-Err : goal.returns-in-Err
 returns-in-Err g c =
     let seen = outside_of g.F.Files.known g.F.Files.read_faults g.F.Files.write_faults g.F.Files.open_faults g.F.Files.create_faults g.I.Source.left g.I.Source.faults g.O.Sink.held g.O.Sink.faults in
-    ends_unopened c.args.recipe c.args.source.now c.args.image.now (seen c.args.files.now c.args.input.now c.args.output.now)
-    (seen c.open.new.files c.args.input.now c.args.output.now) c.in-Err.outcome
+    ends_unopened c.args.recipe c.args.source.now c.args.image.now (seen c.args.files.now c.args.input.now c.args.output.now) (seen c.open.new.files c.args.input.now c.args.output.now) c.in-Err.outcome
     c.in-Err.ensures.err (record { files = c.in-Err.ensures.known; input = refl; output = refl })

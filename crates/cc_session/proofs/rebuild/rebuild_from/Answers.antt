@@ -47,8 +47,6 @@ returns g c =
     c.in_ok-image.ensures
     ∙ (ap (λ (o : PlainOmega). file_of_program o (lambdas_of (map arc_value c.deref-2.result.now))) graph
     ∙ ap (λ xs. file_of_program (built.omega p) (lambdas_of (map arc_value xs))) c.deref-2.ensures.value) in
-    let jobs = c.count_of-jobs.ensures ∙ ap (count_by (λ b. b)) c.deref-4.ensures.value in
+    let jobs = c.count_of-jobs.ensures ∙ ap (count_by (λ b. b)) c.deref-3.ensures.value in
     rebuilt c.orders_are_unique.ensures.unique now recipe last c.requires.session deps stale answers made c.in_ok-image.image.items c.count_of-jobs.result c.in_ok-source.source.items
-    c.into_lambdas-lambdas.result.items c.in_ok-own.own.items file jobs (c.in_ok-source.ensures.items ∙ c.source.ensures.same)
-    (c.into_lambdas-lambdas.ensures ∙ ap (λ (o : PlainOmega). o.lambdas) graph)
-    (c.in_ok-own.ensures.items ∙ c.deref-3.ensures.value)
+    c.into_lambdas-lambdas.result.items file jobs (c.in_ok-source.ensures.items ∙ c.source.ensures.same) (c.into_lambdas-lambdas.ensures ∙ ap (λ (o : PlainOmega). o.lambdas) graph)

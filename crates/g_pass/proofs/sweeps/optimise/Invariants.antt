@@ -1,4 +1,3 @@
--- The lambda is the one after the sweeps so far, and well formed.
 use Rattle.std.proofs.Common.{◌≡◌, map, take}
 use Rattle.std.specs.Arc.{arc_value}
 use Rattle.std.specs.List.{fold}
@@ -8,6 +7,7 @@ use Rattle.g_pass_def.specs.Sweep.{Swept, sweep}
 use Rattle.g_pass.specs.Sweep.{rules}
 use Rattle.g_pass.proofs.sweeps.optimise.Given as goal
 
+-- the lambda is the one after the sweeps so far, and well formed
 abbrev pub invariant-loop-rule : goal.invariant-loop-rule
 invariant-loop-rule l =
     let now : Swept = record { lambda = l.lambda; steps = l.log.items } in

@@ -1,12 +1,18 @@
-use Rattle.std.proofs.Common.{map, sym, ◌∙◌}
+use Rattle.std.proofs.Common.{◌∙◌, ap, map, take}
 use Rattle.std.specs.Arc.{arc_value}
+use Rattle.std.specs.List.{fold}
 use Rattle.g_pass_def.specs.Answers.{lambdas_of}
-use Rattle.g_pass.proofs.FastSweeps.{ok_after, is_sweep}
+use Rattle.g_pass_def.specs.Sweep.{tried}
+use Rattle.g_pass.specs.Sweep.{rules}
+use Rattle.g_pass.proofs.Swept.{on_err, same_swept}
 use Rattle.g_pass.proofs.sweeps.sweep.Goals as goal
 
-pub returns-then-is_fast-clause-ok : goal.returns-then-is_fast-clause-ok
-returns-then-is_fast-clause-ok c =
-    ok_after c.sweep_copy.result
-    (is_sweep c.args.rule (lambdas_of (map arc_value c.args.callees.now)) c.args.lambda.now c.sweep_copy.new.lambda c.args.log.now.items c.sweep_copy.new.log.items
-    (sym c.is_fast.ensures ∙ c.if-is_fast.true))
-    c.sweep_copy.ensures.ok
+pub returns-in_err-try_step-clause-err : goal.returns-in_err-try_step-clause-err
+returns-in_err-try_step-clause-err c =
+    on_err _ c.from_residual-in_err-try_step.result (
+      c.loop-node.node-index,
+      same_swept _ _ _ _ c.in_err-try_step.ensures.err_lambda c.in_err-try_step.ensures.err_log
+          ∙ c.loop-node.invariant.swept
+          ∙ ap (λ ns. fold (tried rules (lambdas_of (map arc_value c.args.callees.now)) c.args.rule) (record { lambda = c.args.lambda.now; steps = c.args.log.now.items })
+          (take c.loop-node.node-index ns)) (c.deref-node-items.ensures.value ∙ c.in_ok-numbers.ensures),
+    )

@@ -1,4 +1,3 @@
--- The lambda is the one after the steps so far, and well formed.
 use Rattle.std.proofs.Common.{◌≡◌, ◌≤◌, ◌-◌, Some, map, take, length}
 use Rattle.std.specs.Arc.{arc_value}
 use Rattle.g_graph.specs.WellFormed.{IsWellFormed}
@@ -7,6 +6,7 @@ use Rattle.g_pass_def.specs.Sweep.{replayed}
 use Rattle.g_pass.specs.Sweep.{rules}
 use Rattle.log_replay.proofs.replayed.replayed.Given as goal
 
+-- the lambda is the one after the steps so far, and well formed
 abbrev pub invariant-loop-made : goal.invariant-loop-made
 invariant-loop-made l =
     record {

@@ -1,0 +1,6 @@
+mod ObjectLemmas
+mod SizeLemmas
+mod Cut
+mod WordLemmas
+mod FunctionLemmas
+mod ImageLemmas

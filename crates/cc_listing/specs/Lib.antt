@@ -1,0 +1,4 @@
+pub mod Sizes
+pub mod Words
+pub mod Lines
+pub mod Laws

@@ -1,6 +1,0 @@
-mod ShownLemmas
-mod RowLemmas
-mod GoneLemmas
-mod WalkLemmas
-mod StoreLemmas
-mod StepLemmas

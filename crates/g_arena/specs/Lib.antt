@@ -1,4 +1,0 @@
-pub mod Gone
-pub mod Seen
-pub mod Rows
-pub mod Stores

@@ -1,3 +1,0 @@
-mod ListedLemmas
-mod TreeLemmas
-mod StepLemmas

@@ -1,5 +1,0 @@
-pub mod UseCells
-pub mod Named
-pub mod Lists
-pub mod Sites
-pub mod Held

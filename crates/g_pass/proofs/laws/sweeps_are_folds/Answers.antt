@@ -1,5 +1,0 @@
-use Rattle.g_pass.proofs.Folds as folds
-use Rattle.g_pass.proofs.laws.sweeps_are_folds.Goals as goal
-
-pub returns : goal.returns
-returns c = folds.sweeps_are_folds

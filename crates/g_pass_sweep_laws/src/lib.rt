@@ -1,0 +1,4 @@
+//! Laws of sweeps. Nothing in it runs.
+#![tactic(auto)]
+
+pub mod laws;

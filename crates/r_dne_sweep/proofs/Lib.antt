@@ -1,9 +1,0 @@
-mod Judged
-mod Gammas
-mod EntryJudged
-mod GammaSteps
-mod VariableGoes
-mod Loops
-mod Front
-mod Visits
-mod Going
