@@ -10,3 +10,6 @@ mod making;
 
 pub use arena::{Arena, NodeView, Uses};
 pub use g_arena_keys::Keys;
+
+#[cfg(test)]
+mod tests;

@@ -8,16 +8,20 @@ use Rattle.g_graph.specs.declared.steps.Step.{Step}
 use Rattle.g_graph.specs.Plain.{PlainLambda}
 use Rattle.g_graph.specs.Ids.{region_ids}
 use Rattle.g_graph.specs.WellFormed.{IsWellFormed}
-use Rattle.g_arena_def.specs.Flat.{Flat}
-use Rattle.g_pass_def.specs.Sweep.{sweep, in_order}
+use Rattle.g_arena_def.specs.Flat.{Flat, StandsFor}
+use Rattle.g_pass_def.specs.Sweep.{Swept, sweep, in_order}
 use Rattle.r_sweep_def.specs.Swept.{Logged, Change, tried_by, swept_by}
 use Rattle.r_sweep_laws.specs.Fast.{HasSwept}
 use Rattle.g_pass.specs.Fast.{is_fast, FastRulesKeep, change_of}
+use Rattle.g_pass.specs.Form.{Holds, IsAt}
+use Rattle.g_pass.specs.declared.form.Form.{Form}
+use Rattle.g_pass.specs.declared.form.Form.TheVariants.{Tree, InArena}
 use Rattle.g_pass.specs.Sweep.{applies, applied, rules}
 use Rattle.r_cne.specs.Laws.{CneIsAStep}
 use Rattle.r_dne.specs.Laws.{DneIsAStep}
 use Rattle.r_inv.specs.Laws.{InvIsAStep}
 use Rattle.g_pass.proofs.Folds.{sweeps_are_folds}
+use Rattle.g_pass.proofs.Swept.{with_steps, same_swept}
 
 abbrev pub logged : PlainLambda → List Step → Logged
 logged l steps = record { lambda = l; steps = steps }
@@ -114,3 +118,30 @@ pub is_sweep : (r : Rule) (callees : List PlainLambda) (l k : PlainLambda) (befo
     record { lambda = k; steps = after } ≡ sweep rules callees (record { lambda = l; steps = before }) r
 is_sweep r callees l k before after fast e =
     (λ i. record { lambda = (e i).lambda; steps = (e i).steps }) ∙ sym (sweeps_are_folds r (not_inline r fast) callees l before)
+
+-- the lambda in an arena after a sweep
+pub at_sweep : (r : Rule) (callees : List PlainLambda) (s : Swept) (b : Flat) (before after : List Step) → IsTrue (is_fast r) → FastRulesKeep → before ≡ s.steps → IsWellFormed s.lambda →
+    HasSwept (change_of r) (in_order rules r (region_ids s.lambda.body)) s.lambda before b after → IsAt (InArena b) after (sweep rules callees s r)
+at_sweep r callees s b before after fast keep e well h =
+    subst (IsAt (InArena b) after) (sym (sweeps_are_folds r (not_inline r fast) callees s.lambda s.steps)) (record {
+      holds = subst (λ xs. StandsFor b (swept_by (change_of r) ns (logged s.lambda xs)).lambda) e h.0;
+      steps = h.1 ∙ ap (λ xs. (swept_by (change_of r) ns (logged s.lambda xs)).steps) e;
+      well = sweeps_keep r fast keep ns (logged s.lambda s.steps) well;
+    })
+  where
+    ns : List ℕ
+    ns = in_order rules r (region_ids s.lambda.body)
+
+-- the lambda as a tree after a sweep
+pub tree_sweep : (r : Rule) (callees : List PlainLambda) (s : Swept) (l k : PlainLambda) (before after : List Step) → l ≡ s.lambda → before ≡ s.steps →
+    with_steps k after ≡ sweep rules callees (with_steps l before) r → IsWellFormed k → IsAt (Tree k) after (sweep rules callees s r)
+tree_sweep r callees s l k before after e f h well =
+    let whole : with_steps k after ≡ sweep rules callees s r = h ∙ ap (λ (t : Swept). sweep rules callees t r) (same_swept l s.lambda before s.steps e f) in
+    record {
+      holds = ap (λ (t : Swept). t.lambda) whole;
+      steps = ap (λ (t : Swept). t.steps) whole;
+      well = subst IsWellFormed (ap (λ (t : Swept). t.lambda) whole) well;
+    }
+
+pub tree_well : (f : Form) (k : PlainLambda) → f ≡ Tree k → (l : PlainLambda) × (Holds f l × IsWellFormed l) → IsWellFormed k
+tree_well f k e h = let same : k ≡ h.0 = subst (λ (g : Form). Holds g h.0) e h.1.0 in subst IsWellFormed (sym same) h.1.1

@@ -1,3 +1,4 @@
 pub mod Recipe
 pub mod Sweep
 pub mod Fast
+pub mod Form

@@ -85,8 +85,8 @@ fn swept_in<L: Ledger>(
     }
 }
 
-// The sweep of a rule over an arena.
-fn sweep_arena<L: Ledger>(
+/// The sweep of such a rule over an arena.
+pub fn sweep_arena<L: Ledger>(
     alloc: Global,
     rule: Rule,
     arena: &mut Arena,
@@ -111,8 +111,8 @@ fn sweep_arena<L: Ledger>(
     }
 }
 
-// What such a rule makes of a well-formed lambda is well formed.
-fn fast_rules_keep()
+/// What such a rule makes of a well-formed lambda is well formed.
+pub fn fast_rules_keep()
     ensures { FastRulesKeep }
 {
     r_cne::laws::cne_keeps_meaning();

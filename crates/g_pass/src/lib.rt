@@ -6,8 +6,10 @@
 
 mod callee;
 mod fast;
+mod form;
 pub mod laws;
 mod names;
+mod plain;
 mod recipe;
 mod rule_step;
 mod sweeps;

@@ -14,22 +14,15 @@ ghost use Rattle.g_pass.specs.Sweep.{rules};
 
 use crate::Recipe;
 use crate::fast::{is_fast, swept_fast};
-use crate::rule_step::{is_backward, try_step};
-use g_graph::{Lambda, Optimised, Rule, Step, StepList, copy_of, ids, values};
+use crate::form::{Form, sweep_form, tree_of};
+use crate::plain::sweep_steps;
+use g_graph::{Lambda, Optimised, Rule, Step, StepList, copy_of, values};
 use no_memory::NoMemory;
 use std::alloc::Global;
+use std::marker::Brand;
 use std::sync::Arc;
-
-// The numbers of the lambda's nodes in the order in which a sweep of the rule visits them.
-fn numbers(alloc: Global, rule: Rule, lambda: &Lambda) -> Result<Vec<u32>, NoMemory>
-    ensures { IfOk result (λ all. all.items ≡ in_order rules rule (region_ids lambda.now.body)) }
-{
-    let mut numbers = ids(alloc, lambda)?;
-    if is_backward(rule) {
-        numbers.reverse();
-    }
-    Ok(numbers)
-}
+use std::sync::ledger::{Blank, Ledger};
+use steps::Steps;
 
 /// Sweeps a rule over a lambda: tries it at each number that the lambda has at the start, in
 /// pre-order or, for a rule that goes backward, in that order reversed. The callees are what
@@ -83,69 +76,6 @@ fn sweep_copy(
     Ok(())
 }
 
-// The sweep, step by step.
-fn sweep_steps(
-    alloc: Global,
-    rule: Rule,
-    lambda: &mut Lambda,
-    callees: &[Arc<Optimised>],
-    log: &mut Vec<Step>,
-) -> Result<(), NoMemory>
-    requires well_formed { IsWellFormed lambda.old }
-    ensures ok { OnOk result (record { lambda = lambda.new; steps = log.new.items } ≡
-        sweep rules (lambdas_of (map arc_value callees.now))
-        (record { lambda = lambda.old; steps = log.old.items }) rule) }
-    ensures kept { IsWellFormed lambda.new }
-    ensures err { OnErr result ((count : ℕ) ×
-        (record { lambda = lambda.new; steps = log.new.items } ≡
-        fold (tried rules (lambdas_of (map arc_value callees.now)) rule)
-        (record { lambda = lambda.old; steps = log.old.items })
-        (take count (in_order rules rule (region_ids lambda.old.body))))) }
-{
-    for node in &numbers(alloc, rule, lambda)? {
-        try_step(alloc, rule, lambda, callees, *node, log)?;
-    }
-    Ok(())
-}
-
-// The fewest values of a lambda that a recipe sweeps over an arena. To put a smaller one into an
-// arena takes longer than to ask it at each of its nodes.
-const LEAST_VALUES: u64 = 1024;
-
-// Whether a recipe sweeps the rule over an arena of the lambda. What it answers changes no result.
-fn is_put_in(rule: Rule, lambda: &Lambda) -> bool
-    ensures { IsTrue result → IsTrue (is_fast rule) }
-{
-    is_fast(rule) && values(lambda) >= LEAST_VALUES
-}
-
-// What a sweep makes of a lambda, of which no copy is made.
-fn swept(
-    alloc: Global,
-    rule: Rule,
-    lambda: Lambda,
-    callees: &[Arc<Optimised>],
-    log: &mut Vec<Step>,
-) -> Result<Lambda, NoMemory>
-    requires well_formed { IsWellFormed lambda }
-    ensures ok { IfOk result (λ made. record { lambda = made; steps = log.new.items } ≡
-        sweep rules (lambdas_of (map arc_value callees.now))
-        (record { lambda = lambda; steps = log.old.items }) rule) }
-    ensures kept { IfOk result (λ made. IsWellFormed made) }
-{
-    if is_put_in(rule, &lambda) {
-        return swept_fast(alloc, rule, lambda, log);
-    }
-    let mut lambda = lambda;
-    match sweep_steps(alloc, rule, &mut lambda, callees, log) {
-        Ok(()) => Ok(lambda),
-        Err(fault) => {
-            drop(lambda);
-            Err(fault)
-        }
-    }
-}
-
 /// What a recipe makes of a lambda, sweep by sweep: the lambda, the steps that applied, and how
 /// many values the lambda had before them. The callees are what functions that it calls were made
 /// into. `NoMemory` only where `sweep` says so; the lambda is then given up.
@@ -160,12 +90,34 @@ pub fn optimise(
     ensures { IfOk result (λ made.
         made ≡ optimise rules (lambdas_of (map arc_value callees.now)) recipe.now lambda) }
 {
+    optimise_in::<Brand>(alloc, Blank::new(1), lambda, callees, recipe)
+}
+
+// The same, with the looks counted in a ledger of its own. Between two sweeps over an arena the
+// lambda stays in it.
+fn optimise_in<L: Ledger>(
+    alloc: Global,
+    blank: Blank,
+    lambda: Lambda,
+    callees: &[Arc<Optimised>],
+    recipe: &Recipe,
+) -> Result<Optimised, NoMemory>
+    requires name { blank.name ≡ L.name }
+    requires parts { blank.parts ≡ L.parts }
+    requires some { 0 < blank.parts }
+    requires well_formed { IsWellFormed lambda }
+    requires small { region_values lambda.body < 2 ^ 32 }
+    ensures { IfOk result (λ made.
+        made ≡ optimise rules (lambdas_of (map arc_value callees.now)) recipe.now lambda) }
+{
     let before = values(&lambda) as u32;
-    let mut lambda = lambda;
+    let mut looks = Steps::<L>::new(blank);
+    let mut form = Form::Tree(lambda);
     let mut log = Vec::new(alloc);
     for rule in recipe.as_slice() {
-        lambda = swept(alloc, *rule, lambda, callees, &mut log)?;
+        form = sweep_form(alloc, *rule, form, callees, &mut log, &mut looks)?;
     }
+    let lambda = tree_of(form, &mut looks)?;
     Ok(Optimised {
         lambda,
         steps: StepList::from(log),

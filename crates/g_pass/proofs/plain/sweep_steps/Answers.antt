@@ -5,7 +5,7 @@ use Rattle.g_pass_def.specs.Answers.{lambdas_of}
 use Rattle.g_pass_def.specs.Sweep.{tried}
 use Rattle.g_pass.specs.Sweep.{rules}
 use Rattle.g_pass.proofs.Swept.{on_err, same_swept}
-use Rattle.g_pass.proofs.sweeps.sweep_steps.Goals as goal
+use Rattle.g_pass.proofs.plain.sweep_steps.Goals as goal
 
 pub returns-in_err-try_step-clause-err : goal.returns-in_err-try_step-clause-err
 returns-in_err-try_step-clause-err c =

@@ -6,7 +6,7 @@ use Rattle.g_graph.specs.WellFormed.{IsWellFormed}
 use Rattle.g_pass_def.specs.Answers.{lambdas_of}
 use Rattle.g_pass_def.specs.Sweep.{Swept, tried}
 use Rattle.g_pass.specs.Sweep.{rules}
-use Rattle.g_pass.proofs.sweeps.sweep_steps.Given as goal
+use Rattle.g_pass.proofs.plain.sweep_steps.Given as goal
 
 abbrev pub invariant-loop-node : goal.invariant-loop-node
 invariant-loop-node l =
