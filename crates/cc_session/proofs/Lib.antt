@@ -1,3 +1,4 @@
 mod Again
 mod Earlier
 mod FromParts
+mod Unstale
