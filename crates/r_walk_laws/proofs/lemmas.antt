@@ -1,0 +1,6 @@
+-- Lemmas of walks that rules cite.
+pub mod Contexts
+pub mod Copies
+pub mod Local
+pub mod Moves
+pub mod Walks
