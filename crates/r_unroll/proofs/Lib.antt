@@ -10,3 +10,4 @@ mod Counted
 mod Found
 mod Made
 mod Followed
+mod Nodes

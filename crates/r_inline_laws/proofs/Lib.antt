@@ -1,0 +1,4 @@
+mod Called
+mod Known
+mod Chosen
+mod Said

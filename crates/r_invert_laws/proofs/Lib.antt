@@ -1,0 +1,3 @@
+pub mod Inverted
+mod Counted
+mod Said

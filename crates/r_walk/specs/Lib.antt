@@ -1,0 +1,3 @@
+pub mod Asks
+pub mod Moves
+pub mod Walks

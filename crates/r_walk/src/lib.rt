@@ -1,0 +1,12 @@
+//! A walk of a rule along the nodes of a lambda, which writes the new lambda and reads the old one.
+//! What it makes is exactly the defined walk.
+//! Always: the old nodes are only read, and a walk takes time n log n beside what the rule takes.
+#![tactic(auto)]
+
+mod counts;
+mod moves;
+mod rule;
+mod walker;
+
+pub use rule::{New, WalkRule};
+pub use walker::walk;
