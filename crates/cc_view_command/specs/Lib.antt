@@ -1,0 +1,4 @@
+pub mod Command
+pub mod Arguments
+pub mod PlainCommand
+pub mod CommandRows
