@@ -5,7 +5,7 @@ pub returns-in-OnStmt : goal.returns-in-OnStmt
 returns-in-OnStmt c = stmt_as c.args.program.typed.now c.args.program.bound c.do_stage.result c.args.machine.now c.do_stage.new.machine c.args.task _ c.in-OnStmt.is c.do_stage.ensures
 
 pub returns-in-RunItems : goal.returns-in-RunItems
-returns-in-RunItems c = stmt_as c.args.program.typed.now c.args.program.bound c.run_items.result c.args.machine.now c.run_items.new.machine c.args.task _ c.in-RunItems.is (c.run_items.ensures c.args.program.bound)
+returns-in-RunItems c = stmt_as c.args.program.typed.now c.args.program.bound c.run_items.result c.args.machine.now c.run_items.new.machine c.args.task _ c.in-RunItems.is c.run_items.ensures
 
 pub returns-in-RunGroups : goal.returns-in-RunGroups
 returns-in-RunGroups c = stmt_as c.args.program.typed.now c.args.program.bound c.run_groups.result c.args.machine.now c.run_groups.new.machine c.args.task _ c.in-RunGroups.is (c.run_groups.ensures c.args.program.typed.now c.args.program.bound)

@@ -1,0 +1,4 @@
+pub mod Known
+pub mod Assigned
+pub mod Arms
+pub mod Numbers
