@@ -1,7 +1,6 @@
 -- The numbers of an inverted loop are new, and what it gives are outputs of its last node.
-use Rattle.std.proofs.Common.{◌≡◌, ℕ, zero, suc, ◌+◌, ◌*◌, ◌≤◌, ◌⊎◌, List, [], ◌∷◌, ◌++◌, map, length, cond, Option, None, Some, refl, sym, ap, subst, ◌∙◌, inl, inr, arith}
+use Rattle.std.proofs.Common.{◌≡◌, ℕ, zero, suc, ◌+◌, ◌≤◌, ◌⊎◌, List, [], ◌∷◌, ◌++◌, map, length, cond, Option, None, Some, refl, sym, ap, subst, ◌∙◌, inl, inr, arith}
 use Rattle.std.specs.Prelude.{option_and_then}
-use Rattle.std.proofs.lemmas.List.{length-append, length-map}
 use Rattle.std.proofs.lemmas.Option.{cond_some}
 use Rattle.g_graph.specs.declared.op.Kind.{Kind}
 use Rattle.g_graph.specs.declared.op.Op.{Op}
@@ -16,11 +15,10 @@ use Rattle.g_graph.proofs.lemmas.Redirects.{nodes_ids-redirected, region_ids-red
 use Rattle.g_graph.proofs.lemmas.Splices.{nodes_ids-joined}
 use Rattle.g_mean.specs.Copies.{IsAmong}
 use Rattle.g_mean.proofs.lemmas.Copies.{among-right, among-split}
-use Rattle.r_copy.specs.Numbering.{node_count, number_from, region_numbered}
-use Rattle.r_copy.proofs.lemmas.Numbering.{copied-ids}
+use Rattle.r_copy.specs.Numbering.{node_count, region_numbered}
 use Rattle.r_edit.specs.Origins.{origins_from}
 use Rattle.r_invert.specs.Compose.{in_sequence, alone}
-use Rattle.r_invert.specs.Rule.{Parts, parts_of, turn, remaining, choice, inverted, new_nodes, may_invert, in_place}
+use Rattle.r_invert.specs.Rule.{Parts, parts_of, turn, remaining, choice, inverted, may_invert, in_place}
 use Rattle.r_walk_def.specs.Laws.{AreOutputsAmong}
 use Rattle.r_walk_laws.proofs.lemmas.Copies.{copies_are_new}
 use Rattle.r_walk_laws.proofs.lemmas.Local.{ids_in}
@@ -37,6 +35,9 @@ from-both next is js a b n h = by (among-split n is js h)
     by : IsAmong n is ⊎ IsAmong n js → next ≤ n
     by (inl k) = a n k
     by (inr k) = b n k
+
+from-later : (next first : ℕ) (ids : List ℕ) → next ≤ first → AreFrom first ids → AreFrom next ids
+from-later next first ids less a n h = omega (arith, a n h)
 
 from-none : (next : ℕ) → AreFrom next []
 from-none next n h = absurd h
@@ -86,56 +87,6 @@ choice-from next first p less =
 inverted-from : (next : ℕ) (p : Parts) → AreFrom next (region_ids (inverted next p))
 inverted-from next p =
     sequence-from next (region_numbered next p.test) (choice (next + node_count p.test) p) (copy-from next next p.test (omega arith)) (choice-from next (next + node_count p.test) p (omega arith))
-
--- how many they are
-copy-count : (first : ℕ) (r : RegionTree) → length (region_ids (region_numbered first r)) ≡ node_count r
-copy-count first r = ap length (copied-ids (number_from first (region_ids r)) r) ∙ length-map (region_ids r) (number_from first (region_ids r))
-
-sequence-count : (a b : RegionTree) → node_count (in_sequence a b) ≡ node_count a + node_count b
-sequence-count a b = ap length (sequence-ids a b) ∙ length-append (region_ids a) (region_ids b)
-
-turn-count : (first : ℕ) (p : Parts) → node_count (turn first p) ≡ node_count p.go + node_count p.test
-turn-count first p =
-    omega (
-      arith,
-      sequence-count (region_numbered first p.go) (region_numbered (first + node_count p.go) p.test),
-      copy-count first p.go,
-      copy-count (first + node_count p.go) p.test,
-    )
-
-remaining-count : (first : ℕ) (p : Parts) → node_count (remaining first p) ≡ 1 + node_count p.go + node_count p.test + node_count p.stop
-remaining-count first p =
-    let loop = turn (suc first) p in
-    omega (
-      arith,
-      sequence-count (alone first Theta (args_of p.go) (length (args_of p.go)) (region_then loop no_regions)) (region_numbered (suc first + (node_count p.go + node_count p.test)) p.stop),
-      length-append (region_ids loop ++ []) [],
-      length-append (region_ids loop) [],
-      turn-count (suc first) p,
-      copy-count (suc first + (node_count p.go + node_count p.test)) p.stop,
-    )
-
-choice-count : (first : ℕ) (p : Parts) → node_count (choice first p) ≡ 2 + node_count p.go + node_count p.test + 2 * node_count p.stop
-choice-count first p =
-    let stop = region_numbered (suc first) p.stop in
-    let rest = remaining (suc first + node_count p.stop) p in
-    omega (
-      arith,
-      length-append (region_ids stop ++ (region_ids rest ++ [])) [],
-      length-append (region_ids stop) (region_ids rest ++ []),
-      length-append (region_ids rest) [],
-      copy-count (suc first) p.stop,
-      remaining-count (suc first + node_count p.stop) p,
-    )
-
-pub inverted_count : (next : ℕ) (p : Parts) → node_count (inverted next p) ≡ new_nodes p
-inverted_count next p =
-    omega (
-      arith,
-      sequence-count (region_numbered next p.test) (choice (next + node_count p.test) p),
-      copy-count next p.test,
-      choice-count (next + node_count p.test) p,
-    )
 
 -- ---- results
 

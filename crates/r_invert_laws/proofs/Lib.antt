@@ -1,3 +1,3 @@
-pub mod Inverted
+mod Inverted
 mod Counted
 mod Said

@@ -21,7 +21,11 @@ use std::alloc::Global;
 /// in pre-order. The steps that applied are appended to the log. `NoMemory` only where the allocator
 /// has none, or where 64 bits do not count the lambda's values; the lambda is then given up, and the
 /// log may have more steps. It takes time n log n in the lambda and in what comes.
-pub fn sweep_fast(alloc: Global, lambda: Lambda, log: &mut Vec<Step>) -> Result<Lambda, NoMemory>
+pub fn sweep_fast(
+    alloc: Global,
+    lambda: Lambda,
+    log: &mut Vec<Step>,
+) -> Result<Lambda, NoMemory>
     requires well_formed { IsWellFormed lambda }
     ensures ok { IfOk result (λ made. record { lambda = made; steps = log.new.items } ≡
         swept_by unroll_change (region_ids lambda.body)
@@ -39,7 +43,6 @@ struct Unrolling;
 
 impl WalkRule for Unrolling {
     ghost rule = { λ _. Unroll };
-
     ghost asked = { λ _. made_at };
 
     fn rule(&self) -> Rule {

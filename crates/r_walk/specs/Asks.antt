@@ -1,13 +1,10 @@
 -- What a rule is asked that looks at one node alone, and opens no region.
-use Rattle.std.specs.Prelude.{◌≡◌, ℕ, true, List, option_map}
+use Rattle.std.specs.Prelude.{ℕ, List, option_map}
 use Rattle.std.specs.declared.option.Option.{Option}
 use Rattle.std.specs.declared.option.Option.TheVariants.{Some, None}
-use Rattle.g_graph.specs.declared.op.Op.{Op}
 use Rattle.g_graph.specs.declared.op.Origin.{Origin}
 use Rattle.g_graph.specs.declared.steps.Step.{Step}
-use Rattle.g_graph.specs.Ids.{region_ids, regions_ids}
-use Rattle.g_graph.specs.Plain.{RegionTree, NodeTree, node, NodeTrees, RegionTrees, no_regions, region_then, nodes_of}
-use Rattle.g_graph.specs.WellFormed.{distinct, every_region, every_in_regions, region_fits, regions_fit, theta_has_states}
+use Rattle.g_graph.specs.Plain.{NodeTree, NodeTrees, nodes_of}
 use Rattle.r_walk.specs.declared.rule.New.{New}
 use Rattle.r_walk_def.specs.Walk.{Part, stays, becomes, Asked, Walking}
 
@@ -30,21 +27,3 @@ asked_by f values next before later x = part_of (f values next x)
 
 abbrev pub walking : (values next : ℕ) → List Step → Walking
 walking values next steps = record { values = values; next = next; steps = steps }
-
--- A region of a well-formed lambda with so many objects, and the regions of a node there: they fit, with all that is nested
--- in them, and their numbers are unique.
-pub record IsSound (r : RegionTree) : Type 0 where
-  pub objects : ℕ
-  pub fits : every_region (region_fits objects) r ≡ true
-  pub unique : distinct (region_ids r) ≡ true
-
-pub record AreSoundIn (op : Op) (rs : RegionTrees) : Type 0 where
-  pub objects : ℕ
-  pub fits : every_in_regions (region_fits objects) rs ≡ true
-  pub unique : distinct (regions_ids rs) ≡ true
-  pub of_node : (id : ℕ) (inputs : List Origin) → regions_fit (node id op inputs rs) ≡ true
-  pub states : (id : ℕ) (inputs : List Origin) → theta_has_states (node id op inputs rs) ≡ true
-
-abbrev pub AllSound : RegionTrees → Type 0
-AllSound no_regions = Unit {0}
-AllSound (region_then r rs) = IsSound r × AllSound rs

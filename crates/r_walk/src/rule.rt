@@ -3,7 +3,7 @@
 ghost use Rattle.std.specs.Prelude.{◌≡◌, IfOk};
 ghost use Rattle.g_graph.specs.Plain.{node, regions_of};
 ghost use Rattle.g_mean.specs.Copies.{AllClosed};
-ghost use Rattle.r_walk.specs.Asks.{made_of, AreSoundIn};
+ghost use Rattle.r_walk.specs.Asks.{made_of};
 
 use g_graph::{Node, Op, Origin, Region, Rule};
 use no_memory::NoMemory;
@@ -27,7 +27,6 @@ pub trait WalkRule {
     ghost use Rattle.r_walk.specs.Asks.{Made};
 
     ghost rule: { Self → Rule };
-
     ghost asked: { Self → (values next : ℕ) → NodeTree → Option Made };
 
     /// The rule that each step names.
@@ -36,7 +35,7 @@ pub trait WalkRule {
 
     /// What comes in the place of the node with this number, op, inputs and regions, in a lambda of
     /// so many values whose next node has the number `next`; nothing where it stays. The regions
-    /// are those of a node of a well-formed lambda. `NoMemory` only where the allocator has none.
+    /// read only what is in them. `NoMemory` only where the allocator has none.
     fn ask(
         &self,
         alloc: Global,
@@ -48,7 +47,6 @@ pub trait WalkRule {
         regions: &[Region],
     ) -> Result<Option<New>, NoMemory>
         requires closed { AllClosed (regions_of regions.now) }
-        requires sound { AreSoundIn op (regions_of regions.now) }
         ensures { IfOk result (λ new. made_of new
             ≡ asked self.now values next (node id op inputs.now (regions_of regions.now))) };
 }

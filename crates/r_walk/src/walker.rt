@@ -1,12 +1,12 @@
 //! The walk.
 
-ghost use Rattle.std.specs.Prelude.{◌≡◌, [], IfOk, OnOk, map};
-ghost use Rattle.g_graph.specs.Plain.{regions_of, regions_in, op_of, inputs_in};
+ghost use Rattle.std.specs.Prelude.{◌≡◌, ◌++◌, List, [], IfOk, OnOk, OnErr, map};
+ghost use Rattle.g_graph.specs.Plain.{regions_of, regions_in, inputs_in};
 ghost use Rattle.g_graph.specs.WellFormed.{IsWellFormed};
 ghost use Rattle.g_mean.specs.Copies.{IsClosed, AllClosed};
 ghost use Rattle.g_graph.specs.declared.steps.Step.{Step};
 ghost use Rattle.r_walk_def.specs.Walk.{Cursor, walk_region, walk_regions, walk_node, walked};
-ghost use Rattle.r_walk.specs.Asks.{asked_by, walking, IsSound, AreSoundIn, AllSound};
+ghost use Rattle.r_walk.specs.Asks.{asked_by, walking};
 ghost use Rattle.r_walk.specs.Moves.{AreMoves, origin_in};
 ghost use Rattle.r_walk.specs.Walks.{IsWalked, HasGained, HasStepped};
 
@@ -86,8 +86,7 @@ fn walk_region<R: WalkRule>(
     counts: &mut Counts,
     log: &mut Vec<Step>,
 ) -> Result<Region, NoMemory>
-    requires closed { IsClosed region.now }
-    requires sound { IsSound region.now }
+    requires { IsClosed region.now }
     ensures ok { IfOk result (λ made.
         record { region = made; now = walking counts.new.values counts.new.next log.new.items } ≡
         walk_region (R.rule by.now) (asked_by (R.asked by.now)) region.now
@@ -117,12 +116,9 @@ fn walk_regions<R: WalkRule>(
     counts: &mut Counts,
     log: &mut Vec<Step>,
 ) -> Result<Vec<Region>, NoMemory>
-    requires closed { AllClosed (regions_of regions.now) }
-    requires sound { AllSound (regions_of regions.now) }
-    ensures ok { IfOk result (λ made. record {
-      regions = regions_of made.items;
-      now = walking counts.new.values counts.new.next log.new.items;
-    } ≡
+    requires { AllClosed (regions_of regions.now) }
+    ensures ok { IfOk result (λ made. record { regions = regions_of made.items;
+        now = walking counts.new.values counts.new.next log.new.items } ≡
         walk_regions (R.rule by.now) (asked_by (R.asked by.now)) (regions_of regions.now)
         (walking counts.old.values counts.old.next log.old.items)) }
     ensures gained { HasGained log.old.items log.new.items }
@@ -145,9 +141,7 @@ fn walk_node<R: WalkRule>(
     log: &mut Vec<Step>,
     nodes: &mut Vec<Node>,
 ) -> Result<(), NoMemory>
-    requires closed { AllClosed (regions_in node.now) }
-    requires sound { AreSoundIn (op_of node.now) (regions_in node.now) }
-    requires inner { AllSound (regions_in node.now) }
+    requires { AllClosed (regions_in node.now) }
     ensures ok { OnOk result ((k : Cursor) → k.inputs ≡ [] → AreMoves moves.old k.moved →
         IsWalked k (walk_node (R.rule by.now) (asked_by (R.asked by.now)) node.now k
         (walking counts.old.values counts.old.next log.old.items))
@@ -181,7 +175,11 @@ fn walk_node<R: WalkRule>(
 }
 
 // The node's inputs as they are now.
-fn inputs_now(alloc: Global, node: &Node, moves: &Moves) -> Result<SmallVec<Origin, 4>, NoMemory>
+fn inputs_now(
+    alloc: Global,
+    node: &Node,
+    moves: &Moves,
+) -> Result<SmallVec<Origin, 4>, NoMemory>
     ensures { IfOk result (λ inputs. inputs.items ≡ map (origin_in moves.now) (inputs_in node.now)) }
 {
     let mut inputs = SmallVec::from_slice(alloc, node.inputs.as_slice())?;

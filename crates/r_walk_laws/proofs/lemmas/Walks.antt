@@ -169,9 +169,9 @@ none_written : (c : Change) (context : RegionTree → RegionTree) (args : List K
     IsAt context args k [] no_nodes after results w l → IsWritten c context args k [] after results w l (unmoved no_nodes w)
 none_written c context args k after results w l at =
     let same : l ≡ lambda_with context args k.before after results (unmoved no_nodes w) l =
-    with_same l (context (region args (joined_nodes k.before (nodes_redirected (origin_now [] []) after)) (map (origin_now [] []) results))) w.next
-    (at.body ∙ ap₂ (λ ns os. context (region args (joined_nodes k.before ns) os)) (sym (nodes_unmoved (origin_now [] []) nothing_moved after)) (sym (all_unmoved (origin_now [] []) nothing_moved results)))
-    at.next in
+        with_same l (context (region args (joined_nodes k.before (nodes_redirected (origin_now [] []) after)) (map (origin_now [] []) results))) w.next
+        (at.body ∙ ap₂ (λ ns os. context (region args (joined_nodes k.before ns) os)) (sym (nodes_unmoved (origin_now [] []) nothing_moved after)) (sym (all_unmoved (origin_now [] []) nothing_moved results)))
+        at.next in
     record {
       sweep = record {
         swept = ap (λ z. logged z w) same;
@@ -189,6 +189,9 @@ none_written c context args k after results w l at =
 
 module _ (c : Change) (context : RegionTree → RegionTree) (is : IsContext context) (args : List Kind) (k : Cursor) (x : NodeTree) (xs after : NodeTrees) (results : List Origin) (w : Walking) (l : PlainLambda)
     (at : IsAt context args k (node_ids x ++ nodes_ids xs) (nodes_redirected (origin_now k.moved k.inputs) (node_then x xs)) after results w l) where
+  abbrev others : NodeTrees
+  others = nodes_redirected (origin_now k.moved k.inputs) xs
+
   ids_now : node_ids (node_now k x) ≡ node_ids x
   ids_now = own x
     where
@@ -466,18 +469,16 @@ module _ (c : Change) (ask : Asked) (local : IsLocal c ask) where
 
       values-becomes : w.values + nodes_values nodes - node_values (node id op ins rs) ≡ lambda_values l-becomes
       values-becomes =
-          omega (
-            arith,
-            at.values ∙ ap region_values at.body,
-            is.values (region args (joined_nodes k.before (node_then (node id op ins rs) after)) results)
-                (region args (joined_nodes k.before (joined_nodes nodes (nodes_redirected (origin_now t-becomes.moved []) after))) (map (origin_now t-becomes.moved []) results))
-                (record { args = refl; results = sym (length-map results (origin_now t-becomes.moved [])) }),
-            length-map results (origin_now t-becomes.moved []),
-            nodes_values-joined k.before (node_then (node id op ins rs) after),
-            nodes_values-joined k.before (joined_nodes nodes (nodes_redirected (origin_now t-becomes.moved []) after)),
-            nodes_values-joined nodes (nodes_redirected (origin_now t-becomes.moved []) after),
-            nodes_values-redirected (origin_now t-becomes.moved []) after,
-          )
+          omega (arith,
+          at.values ∙ ap region_values at.body,
+          is.values (region args (joined_nodes k.before (node_then (node id op ins rs) after)) results)
+          (region args (joined_nodes k.before (joined_nodes nodes (nodes_redirected (origin_now t-becomes.moved []) after))) (map (origin_now t-becomes.moved []) results))
+          (record { args = refl; results = sym (length-map results (origin_now t-becomes.moved [])) }),
+          length-map results (origin_now t-becomes.moved []),
+          nodes_values-joined k.before (node_then (node id op ins rs) after),
+          nodes_values-joined k.before (joined_nodes nodes (nodes_redirected (origin_now t-becomes.moved []) after)),
+          nodes_values-joined nodes (nodes_redirected (origin_now t-becomes.moved []) after),
+          nodes_values-redirected (origin_now t-becomes.moved []) after)
 
       becomes_written : IsWritten c context args k (id ∷ regions_ids rs) after results w l t-becomes
       becomes_written =
@@ -638,20 +639,18 @@ module _ (c : Change) (ask : Asked) (local : IsLocal c ask) where
 
       values-open : w-open.values ≡ lambda_values l-open
       values-open =
-          omega (
-            arith,
-            at.values ∙ ap region_values at.body,
-            ap region_values body-open,
-            is.values (region args (joined_nodes k.before (node_then (node id op ins rs) after)) results)
-                (region args (joined_nodes k.before (joined_nodes (nodes_redirected (origin_now k.moved inputs) said.nodes) after-open)) results-open)
-                (record { args = refl; results = sym (length-map results now-open) }),
-            length-map results now-open,
-            nodes_values-joined k.before (node_then (node id op ins rs) after),
-            nodes_values-joined k.before (joined_nodes (nodes_redirected (origin_now k.moved inputs) said.nodes) after-open),
-            nodes_values-joined (nodes_redirected (origin_now k.moved inputs) said.nodes) after-open,
-            nodes_values-redirected (origin_now k.moved inputs) said.nodes,
-            nodes_values-redirected now-open after,
-          )
+          omega (arith,
+          at.values ∙ ap region_values at.body,
+          ap region_values body-open,
+          is.values (region args (joined_nodes k.before (node_then (node id op ins rs) after)) results)
+          (region args (joined_nodes k.before (joined_nodes (nodes_redirected (origin_now k.moved inputs) said.nodes) after-open)) results-open)
+          (record { args = refl; results = sym (length-map results now-open) }),
+          length-map results now-open,
+          nodes_values-joined k.before (node_then (node id op ins rs) after),
+          nodes_values-joined k.before (joined_nodes (nodes_redirected (origin_now k.moved inputs) said.nodes) after-open),
+          nodes_values-joined (nodes_redirected (origin_now k.moved inputs) said.nodes) after-open,
+          nodes_values-redirected (origin_now k.moved inputs) said.nodes,
+          nodes_values-redirected now-open after)
 
       at-open : IsAt context args inner (nodes_ids said.nodes) (nodes_redirected (origin_now k.moved inputs) said.nodes) after-open results-open w-open l-open
       at-open =
@@ -987,7 +986,7 @@ module _ (c : Change) (ask : Asked) (local : IsLocal c ask) where
       let s : WrittenNodes = walk_node c.rule ask x (cursor_at xs k) w in
       let rest : NodeTrees = joined_nodes (nodes_redirected (origin_now k.moved k.inputs) xs) after in
       let done : IsWritten c context args (cursor_at xs k) (node_ids x) rest results w l s =
-      h context is args (cursor_at xs k) rest results w l (at_node c context is args k x xs after results w l at) in
+          h context is args (cursor_at xs k) rest results w l (at_node c context is args k x xs after results w l at) in
       both_are c context is args k x xs after results w l at s done (walk_nodes c.rule ask xs (cursor_after s k) s.now)
       (g context is args (cursor_after s k) (nodes_redirected (origin_now s.moved []) after) (map (origin_now s.moved []) results) s.now
       (lambda_with context args k.before rest results s l) (at_others c context is args k x xs after results w l at s done))

@@ -6,11 +6,10 @@ use Rattle.g_graph.specs.Plain.{node, region, region_then, inputs_in, nodes_of, 
 use Rattle.g_mean.specs.Copies.{IsClosed, AllClosed}
 use Rattle.r_walk_def.specs.Context.{joined_regions}
 use Rattle.r_walk_def.specs.Walk.{walk_node, walk_region, walk_regions}
-use Rattle.r_walk.specs.Asks.{made_of, asked_by, walking, IsSound, AllSound}
+use Rattle.r_walk.specs.Asks.{made_of, asked_by, walking}
 use Rattle.r_walk.specs.Moves.{origin_in}
 use Rattle.r_walk.specs.Walks.{IsWalked, HasStepped}
 use Rattle.r_walk.proofs.Along.{AreInnerClosed, region_inner, IsAlong, begin, begins, goes_on, region_written, joined_more, joined_none, gained_more, stays_walked, step_walked, on_ok}
-use Rattle.r_walk.proofs.Sound.{AreSoundNodes, region_nodes}
 use Rattle.r_walk.proofs.walker.+walk.Goals as goal
 
 pub walk_node-returns-in-Some-clause-ok : goal.walk_node-returns-in-Some-clause-ok
@@ -37,7 +36,7 @@ walk_node-returns-in_ok-push-in-None-clause-ok g t c =
     let w = walking c.args.counts.now.values c.args.counts.now.next c.args.log.now.items in
     let now = walking c.walk_regions.new.counts.values c.walk_regions.new.counts.next c.walk_regions.new.log.items in
     let ins : c.in_ok-inputs.inputs.items ≡ map (origin_in c.args.moves.now) x.inputs.items =
-    c.in_ok-inputs.ensures ∙ ap (λ y. map (origin_in c.args.moves.now) (inputs_in y)) (sym c.node.view_is) in
+        c.in_ok-inputs.ensures ∙ ap (λ y. map (origin_in c.args.moves.now) (inputs_in y)) (sym c.node.view_is) in
     λ k none moved.
     subst (λ y. IsWalked k (walk_node rule (asked_by f) y k w) c.args.nodes.now.items c.push.new.self.items c.args.moves.now now) c.node.view_is
     (subst (λ after. IsWalked k (walk_node rule (asked_by f) (node x.id x.op x.inputs.items (regions_of x.regions.items)) k w) c.args.nodes.now.items after c.args.moves.now now)
@@ -57,9 +56,7 @@ walk_region-loop-node-init g t c =
           (sym c.in_ok-nodes.ensures.items) (begins rule ask (nodes_of c.deref-node-items.result.now) c.region.inside.results.items w c.new-moves.result c.new-moves.ensures);
       gained = ([], sym (append-nil c.args.log.now.items));
       closed = subst (λ ns. AreInnerClosed (nodes_of ns)) (sym c.deref-node-items.ensures.value)
-          (region_inner c.region.inside.args.items (nodes_of c.region.inside.nodes.items) c.region.inside.results.items (subst IsClosed (sym c.region.view_is) c.requires.closed));
-      sound = subst (λ ns. AreSoundNodes (nodes_of ns)) (sym c.deref-node-items.ensures.value)
-          (region_nodes c.region.inside.args.items (nodes_of c.region.inside.nodes.items) c.region.inside.results.items (subst IsSound (sym c.region.view_is) c.requires.sound));
+          (region_inner c.region.inside.args.items (nodes_of c.region.inside.nodes.items) c.region.inside.results.items (subst IsClosed (sym c.region.view_is) c.requires));
     }
 
 pub walk_region-loop-node-preserved : goal.walk_region-loop-node-preserved
@@ -79,7 +76,6 @@ walk_region-loop-node-preserved g t c =
           c.in_ok-walk_node.ensures.ok;
       gained = gained_more c.args.log.now.items c.loop-node.log.items c.walk_node.new.log.items c.loop-node.invariant.gained c.in_ok-walk_node.ensures.gained;
       closed = (subst (λ ns. AreInnerClosed (nodes_of ns)) more c.loop-node.invariant.closed).1;
-      sound = (subst (λ ns. AreSoundNodes (nodes_of ns)) more c.loop-node.invariant.sound).1;
     }
 
 pub walk_region-returns-clause-ok : goal.walk_region-returns-clause-ok
@@ -91,13 +87,13 @@ walk_region-returns-clause-ok g t c =
     let now = walking c.loop-node.counts.values c.loop-node.counts.next c.loop-node.log.items in
     let items = c.deref-node-items.result.now in
     let done : IsAlong rule ask (nodes_of items) (begin rule ask x.results.items) w c.loop-node.nodes.items c.loop-node.moves (nodes_of []) now =
-    subst (λ ns. IsAlong rule ask (nodes_of items) (begin rule ask x.results.items) w c.loop-node.nodes.items c.loop-node.moves (nodes_of ns) now)
-    (drop_of_length-le items c.loop-node-test.false) c.loop-node.invariant.along in
+        subst (λ ns. IsAlong rule ask (nodes_of items) (begin rule ask x.results.items) w c.loop-node.nodes.items c.loop-node.moves (nodes_of ns) now)
+        (drop_of_length-le items c.loop-node-test.false) c.loop-node.invariant.along in
     let results : (with_items c.in_ok-results.results c.redirect_origins.new.origins).items ≡ map (origin_in c.loop-node.moves) x.results.items =
-    with_items_is c.in_ok-results.results c.redirect_origins.new.origins
-    (ap length c.redirect_origins.ensures ∙ length-map c.as_mut_slice.result.now (origin_in c.loop-node.moves) ∙ c.as_mut_slice.ensures.len)
-    ∙ c.redirect_origins.ensures
-    ∙ ap (map (origin_in c.loop-node.moves)) (c.as_mut_slice.ensures.value ∙ c.in_ok-results.ensures.items ∙ c.deref-2.ensures.value) in
+        with_items_is c.in_ok-results.results c.redirect_origins.new.origins
+        (ap length c.redirect_origins.ensures ∙ length-map c.as_mut_slice.result.now (origin_in c.loop-node.moves) ∙ c.as_mut_slice.ensures.len)
+        ∙ c.redirect_origins.ensures
+        ∙ ap (map (origin_in c.loop-node.moves)) (c.as_mut_slice.ensures.value ∙ c.in_ok-results.ensures.items ∙ c.deref-2.ensures.value) in
     let args : c.in_ok-args.args.items ≡ x.args.items = c.in_ok-args.ensures.items ∙ c.deref.ensures.value in
     ap₂ (λ ks os. record { region = region ks (nodes_of c.loop-node.nodes.items) os; now = now }) args results
     ∙ region_written rule ask x.args.items items x.results.items w now c.loop-node.nodes.items c.loop-node.moves done
@@ -111,8 +107,7 @@ walk_regions-loop-region-init g t c =
     record {
       along = ap (λ made. record { regions = joined_regions (regions_of made) r.regions; now = r.now }) c.in_ok-made.ensures.items;
       gained = ([], sym (append-nil c.args.log.now.items));
-      closed = c.requires.closed;
-      sound = c.requires.sound;
+      closed = c.requires;
     }
 
 pub walk_regions-loop-region-preserved : goal.walk_regions-loop-region-preserved
@@ -138,7 +133,6 @@ walk_regions-loop-region-preserved g t c =
           ∙ c.loop-region.invariant.along;
       gained = gained_more c.args.log.now.items c.loop-region.log.items c.walk_region.new.log.items c.loop-region.invariant.gained c.in_ok-walk_region.ensures.gained;
       closed = (subst (λ rs. AllClosed (regions_of rs)) more c.loop-region.invariant.closed).1;
-      sound = (subst (λ rs. AllSound (regions_of rs)) more c.loop-region.invariant.sound).1;
     }
 
 pub walk_regions-returns-clause-ok : goal.walk_regions-returns-clause-ok

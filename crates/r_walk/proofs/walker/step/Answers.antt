@@ -19,11 +19,11 @@ returns-clause-ok g c =
     let news : c.nodes_values.result ≡ saturated new = c.nodes_values.ensures ∙ ap (λ ns. saturated (nodes_values (nodes_of ns))) c.deref-2.ensures.value in
     let olds : c.node_values-old.result ≡ saturated old = c.node_values-old.ensures ∙ ap (λ rs. saturated (node_values (node x.id x.op x.inputs.items (regions_of rs)))) c.deref.ensures.value in
     let values : c.step.new.self.values ≡ c.args.counts.now.values + new - old =
-    c.in_ok-step.ensures.values ∙ ap₂ (λ m n. c.args.counts.now.values + m - n) news olds
-    ∙ values_counted c.args.counts.now.values new old (subst (λ m. m < 2 ^ 64 - 1) news c.in_ok-step.ensures.counted)
-    (subst (λ m. c.args.counts.now.values + m < 2 ^ 64) news c.in_ok-step.ensures.fits) in
+        c.in_ok-step.ensures.values ∙ ap₂ (λ m n. c.args.counts.now.values + m - n) news olds
+        ∙ values_counted c.args.counts.now.values new old (subst (λ m. m < 2 ^ 64 - 1) news c.in_ok-step.ensures.counted)
+        (subst (λ m. c.args.counts.now.values + m < 2 ^ 64) news c.in_ok-step.ensures.fits) in
     let steps : c.push.new.self.items ≡ c.args.log.now.items ++ record { rule = rule; node = x.id } ∷ [] =
-    c.in_ok-push.ensures.items ∙ ap (λ r. c.args.log.now.items ++ record { rule = r; node = x.id } ∷ []) c.rule.ensures in
+        c.in_ok-push.ensures.items ∙ ap (λ r. c.args.log.now.items ++ record { rule = r; node = x.id } ∷ []) c.rule.ensures in
     record {
       nodes = c.in_ok-append.ensures.items;
       moved = λ n p.

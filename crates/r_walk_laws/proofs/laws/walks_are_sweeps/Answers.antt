@@ -1,3 +1,4 @@
+
 use Rattle.r_walk_laws.proofs.lemmas.Walks.{walks_are_sweeps}
 use Rattle.r_walk_laws.proofs.laws.walks_are_sweeps.Goals as goal
 
