@@ -53,34 +53,17 @@ pub fn swept_fast(
     ensures err { OnErr result (log.new.items ≡ log.old.items) }
 {
     let len = log.len();
-    match swept_whole(alloc, rule, lambda, log) {
+    let made = if is_in_arena(rule) {
+        swept_in::<Brand>(alloc, Blank::new(1), rule, lambda, log)
+    } else {
+        walked(alloc, rule, lambda, log)
+    };
+    match made {
         Ok(made) => Ok(made),
         Err(fault) => {
             log.truncate(len);
             Err(fault)
         }
-    }
-}
-
-// The sweep. After NoMemory the log may have steps more.
-fn swept_whole(
-    alloc: Global,
-    rule: Rule,
-    lambda: Lambda,
-    log: &mut Vec<Step>,
-) -> Result<Lambda, NoMemory>
-    requires fast { IsTrue (is_fast rule) }
-    requires well_formed { IsWellFormed lambda }
-    ensures ok { IfOk result (λ made. record { lambda = made; steps = log.new.items } ≡
-        swept_by (change_of rule) (in_order rules rule (region_ids lambda.body))
-        (record { lambda = lambda; steps = log.old.items })) }
-    ensures kept { IfOk result (λ made. IsWellFormed made) }
-    ensures err { OnErr result ((added : List Step) × (log.new.items ≡ log.old.items ++ added)) }
-{
-    if is_in_arena(rule) {
-        swept_in::<Brand>(alloc, Blank::new(1), rule, lambda, log)
-    } else {
-        walked(alloc, rule, lambda, log)
     }
 }
 

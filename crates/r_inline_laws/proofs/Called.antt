@@ -51,6 +51,9 @@ abbrev pub holds_call : (f n : ℕ) → RegionTree → Option RegionTree
 holds_call f n (region args nodes results) = option_and_then (λ y. kept_if f (called_by (op_of y)) (region args nodes results)) (node_at n nodes)
 
 module _ (f n : ℕ) where
+  abbrev test : RegionTree → Bool
+  test r = is_some (holds_call f n r)
+
   -- what is among the rest is not in the first
   in-rest : (xs ys : List ℕ) → distinct (xs ++ ys) ≡ true → (found : Option ℕ) → ((IsAmong n ys → ⊥) → found ≡ None) → found ≡ Some f → IsAmong n xs → ⊥
   in-rest xs ys d found h e k = absurd (let none : found ≡ None = h (λ j. distinct-apart xs ys d n k j) in cc)

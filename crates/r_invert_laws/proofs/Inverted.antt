@@ -38,6 +38,9 @@ from-both next is js a b n h = by (among-split n is js h)
     by (inl k) = a n k
     by (inr k) = b n k
 
+from-later : (next first : ℕ) (ids : List ℕ) → next ≤ first → AreFrom first ids → AreFrom next ids
+from-later next first ids less a n h = omega (arith, a n h)
+
 from-none : (next : ℕ) → AreFrom next []
 from-none next n h = absurd h
 

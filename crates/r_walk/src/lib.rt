@@ -1,5 +1,5 @@
-//! A walk of a rule along the nodes of a lambda, which writes the new lambda and reads the old one.
-//! What it makes is exactly the defined walk.
+//! A walk of a rule over a lambda: one pass along the nodes, which writes the new lambda while it
+//! reads the old one. What it makes is exactly the defined walk.
 //! Always: the old nodes are only read, and a walk takes time n log n beside what the rule takes.
 #![tactic(auto)]
 

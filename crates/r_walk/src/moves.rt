@@ -1,6 +1,6 @@
 //! What became of outputs of nodes.
 
-ghost use Rattle.std.specs.Prelude.{◌≡◌, ◌==◌, ℕ, OnOk, if◌then◌else◌, slice_get, unwrap_or};
+ghost use Rattle.std.specs.Prelude.{◌≡◌, ◌==◌, ℕ, OnOk, if◌then◌else◌, nat_eq, slice_get, unwrap_or};
 ghost use Rattle.g_graph.specs.declared.op.Origin.TheVariants.{Out};
 ghost use Rattle.r_walk.specs.Moves.{output_in, origin_in};
 

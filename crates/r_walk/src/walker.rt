@@ -1,6 +1,6 @@
 //! The walk.
 
-ghost use Rattle.std.specs.Prelude.{◌≡◌, [], IfOk, OnOk, map};
+ghost use Rattle.std.specs.Prelude.{◌≡◌, ◌++◌, List, [], IfOk, OnOk, OnErr, map};
 ghost use Rattle.g_graph.specs.Plain.{regions_of, regions_in, op_of, inputs_in};
 ghost use Rattle.g_graph.specs.WellFormed.{IsWellFormed};
 ghost use Rattle.g_mean.specs.Copies.{IsClosed, AllClosed};

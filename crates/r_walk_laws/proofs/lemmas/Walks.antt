@@ -189,6 +189,9 @@ none_written c context args k after results w l at =
 
 module _ (c : Change) (context : RegionTree → RegionTree) (is : IsContext context) (args : List Kind) (k : Cursor) (x : NodeTree) (xs after : NodeTrees) (results : List Origin) (w : Walking) (l : PlainLambda)
     (at : IsAt context args k (node_ids x ++ nodes_ids xs) (nodes_redirected (origin_now k.moved k.inputs) (node_then x xs)) after results w l) where
+  abbrev others : NodeTrees
+  others = nodes_redirected (origin_now k.moved k.inputs) xs
+
   ids_now : node_ids (node_now k x) ≡ node_ids x
   ids_now = own x
     where
