@@ -295,8 +295,8 @@ END {
     reach("trees", "Accepts", "limit_passed")
     reach("compiled", "IsImageUnder", "")
     reach("built", "HasBuilt", "")
-    reach("top", "cc_command.command_of cc_top.Ends cc_top.Completes outside_of IsReported", "")
-    reach("status", "cc_command.command_of BuildEndsUnder outside_of IsReported", "IsRefused WasCompiled")
+    reach("top", "command_of cc_top.Ends cc_top.Completes outside_of IsReported", "")
+    reach("status", "command_of BuildEndsUnder outside_of IsReported", "IsRefused WasCompiled")
     reach("kept", "FileKeeps", "")
     machine = "rv_isa elf_file rv_machine"
     source = "val_core c_type c_typed c_mean"

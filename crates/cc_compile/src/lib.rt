@@ -12,4 +12,4 @@ mod typed;
 
 pub use recipe::recipe_of;
 pub use source::{compile, compile_one};
-pub use typed::{Compiled, compile_typed, file_of_items};
+pub use typed::{Compiled, compile_typed, file_with};

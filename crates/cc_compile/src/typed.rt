@@ -8,17 +8,14 @@ ghost use Rattle.c_check_def.specs.Limits.{above_limits};
 ghost use Rattle.g_build_def.specs.Functions.{omega};
 ghost use Rattle.g_build.specs.Answer.{limit_named};
 ghost use Rattle.g_build.specs.Passed.{limit_passed};
-ghost use Rattle.elf_file.specs.Written.{file_of};
-ghost use Rattle.rv_layout.specs.Layout.{item_lists};
 ghost use Rattle.cc_emit_def.specs.Image.{file_of_program, lambdas_of, CanEmit};
-ghost use Rattle.cc_emit.specs.Items.{image_of_items, CanEmitItems};
 ghost use Rattle.cc_compile.specs.Compiled.{rows_of, IsCompiledUnder};
 
 use crate::laws::answers_can_be_emitted;
 use crate::rows::rows_of;
 use board_work::Gate;
 use c_typed::Typed;
-use cc_emit::{all_items, emit_items};
+use cc_emit::emit;
 use cc_source_keeps::laws::{programs_can_be_emitted, unlimited_are_small};
 use cc_watch::Row;
 use g_build::{BuildFault, build};
@@ -26,7 +23,6 @@ use g_graph::{Omega, Optimised};
 use g_pass::Recipe;
 use g_pass_work::{answers, answers_by_workers};
 use no_memory::NoMemory;
-use rv_layout::Item;
 use std::alloc::Global;
 use std::sync::{Arc, Wait};
 use std::thread::Threads;
@@ -42,29 +38,14 @@ pub struct Compiled {
     pub rows: Vec<Row>,
 }
 
-/// The file of a program of whose functions these are the items. `NoMemory` only where the allocator
-/// has none.
-pub fn file_of_items(
-    alloc: Global,
-    omega: &Omega,
-    functions: &[Vec<Item>],
-) -> Result<Vec<u8>, NoMemory>
-    requires { CanEmitItems omega.now (item_lists functions.now) }
-    ensures { IfOk result (λ file.
-        file.items ≡ file_of (image_of_items omega.now (item_lists functions.now))) }
-{
-    let image = emit_items(alloc, functions, omega)?;
-    elf_file::write(alloc, &image)
-}
-
-// The file of a program, of whose functions a recipe makes these.
-fn file_with(alloc: Global, omega: &Omega, all: &[Arc<Optimised>]) -> Result<Vec<u8>, NoMemory>
+/// The file of a program, of whose functions a recipe makes these.
+pub fn file_with(alloc: Global, omega: &Omega, all: &[Arc<Optimised>]) -> Result<Vec<u8>, NoMemory>
     requires { CanEmit omega.now (lambdas_of (map arc_value all.now)) }
     ensures { IfOk result (λ file.
         file.items ≡ file_of_program omega.now (lambdas_of (map arc_value all.now))) }
 {
-    let functions = all_items(alloc, all)?;
-    file_of_items(alloc, omega, &functions)
+    let image = emit(alloc, all, omega)?;
+    elf_file::write(alloc, &image)
 }
 
 // What a typed program is compiled to, of whose functions a recipe makes these.

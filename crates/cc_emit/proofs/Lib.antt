@@ -1,2 +1,2 @@
+mod Answered
 mod Emitted
-pub mod lemmas

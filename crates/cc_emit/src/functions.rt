@@ -16,9 +16,8 @@ use s_sequence::sequence;
 use std::alloc::Global;
 use std::sync::Arc;
 
-/// The items of a lambda's function. Its linear code is let go. It takes time n log n in the values
-/// of the lambda. `NoMemory` only where the allocator has none.
-pub fn function_items(alloc: Global, lambda: &Lambda) -> Result<Vec<Item>, NoMemory>
+/// The items of a lambda's function. Its linear code is let go.
+fn function_items(alloc: Global, lambda: &Lambda) -> Result<Vec<Item>, NoMemory>
     requires { IsFunction lambda.now }
     ensures { IfOk result (λ items. items.items ≡ function_items lambda.now) }
 {
@@ -28,9 +27,11 @@ pub fn function_items(alloc: Global, lambda: &Lambda) -> Result<Vec<Item>, NoMem
     select(alloc, &linear, &places, &frame, &lambda.objects)
 }
 
-/// The items of the function of each lambda, in order. It takes time n log n in the values of each.
-/// `NoMemory` only where the allocator has none.
-pub fn all_items(alloc: Global, answers: &[Arc<Optimised>]) -> Result<Vec<Vec<Item>>, NoMemory>
+/// The items of each function, in order.
+pub(crate) fn all_items(
+    alloc: Global,
+    answers: &[Arc<Optimised>],
+) -> Result<Vec<Vec<Item>>, NoMemory>
     requires { (f : ℕ) (l : PlainLambda)
         → slice_get (lambdas_of (map arc_value answers.now)) f ≡ Some l → IsFunction l }
     ensures { IfOk result (λ all.

@@ -4,16 +4,14 @@ ghost use Rattle.std.specs.Prelude.{◌≡◌, ◌<◌, ◌^◌, map, IfOk};
 ghost use Rattle.std.specs.Arc.{arc_value};
 ghost use Rattle.elf_file.specs.Image.{sections_of, IsPlaced};
 ghost use Rattle.elf_file.specs.Written.{file_of};
-ghost use Rattle.rv_layout.specs.Layout.{item_lists};
 ghost use Rattle.cc_emit_def.specs.Image.{image_of, lambdas_of, main_of, CanEmit};
 ghost use Rattle.cc_emit_keeps.specs.Images.{KeepsLambdas};
-ghost use Rattle.cc_emit.specs.Items.{image_of_items, CanEmitItems};
 
 use crate::functions::all_items;
 use elf_file::Image;
 use g_graph::{Omega, Optimised, main_index};
 use no_memory::NoMemory;
-use rv_layout::{Item, lay};
+use rv_layout::lay;
 use std::alloc::Global;
 use std::sync::Arc;
 
@@ -26,19 +24,6 @@ fn main_of(omega: &Omega) -> u32
         Some(index) => index as u32,
         None => 0,
     }
-}
-
-/// The image of a program of whose functions these are the items, with the globals of the program.
-/// It takes time n log n in the items of each function, and linear in all else. `NoMemory` only
-/// where the allocator has none.
-pub fn emit_items(alloc: Global, functions: &[Vec<Item>], omega: &Omega) -> Result<Image, NoMemory>
-    requires { CanEmitItems omega.now (item_lists functions.now) }
-    ensures image { IfOk result (λ image.
-        sections_of image ≡ image_of_items omega.now (item_lists functions.now)) }
-    ensures placed { IfOk result (λ image. IsPlaced (sections_of image)) }
-{
-    cc_emit_def::laws::image_is_placed();
-    lay(alloc, functions, &omega.deltas, main_of(omega))
 }
 
 /// The image of a program: the functions that these lambdas are, in the order of the source, and
@@ -54,7 +39,8 @@ pub fn emit(alloc: Global, answers: &[Arc<Optimised>], omega: &Omega) -> Result<
     ensures kept { IfOk result (λ image. KeepsLambdas omega.now
         (lambdas_of (map arc_value answers.now)) (file_of (sections_of image))) }
 {
+    cc_emit_def::laws::image_is_placed();
     cc_emit_keeps::laws::images_keep_meaning();
     let functions = all_items(alloc, answers)?;
-    emit_items(alloc, &functions, omega)
+    lay(alloc, &functions, &omega.deltas, main_of(omega))
 }

@@ -1,4 +1,3 @@
 mod Again
 mod Earlier
 mod FromParts
-mod Unstale

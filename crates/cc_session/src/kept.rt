@@ -3,35 +3,28 @@
 ghost use Rattle.std.specs.Prelude.{◌≡◌, map, IfSome};
 ghost use Rattle.std.specs.Arc.{arc_value};
 ghost use Rattle.call_order.specs.Units.{call_lists};
-ghost use Rattle.rv_layout.specs.Layout.{item_lists};
 ghost use Rattle.cc_session.specs.Session.{answers_of, deps_of, lambdas_of, IsImageKept};
-ghost use Rattle.cc_session.specs.Items.{items_of};
 
 use g_graph::{Lambda, Optimised};
-use rv_layout::Item;
 use std::marker::Model;
 use std::sync::Arc;
 
 /// What is kept of the last rebuild: its source, the lambdas of its program, the deps of each, what
-/// the recipe made of each, the items of each function, and the image. Contracts see a plain record
-/// without the items, which are those of the answers.
+/// the recipe made of each, and the image. Contracts see a plain record.
 #[derive(Drop)]
 pub(crate) struct Kept {
     pub(crate) source: Vec<u8>,
     pub(crate) lambdas: Vec<Lambda>,
     pub(crate) deps: Vec<Vec<u32>>,
     pub(crate) answers: Vec<Arc<Optimised>>,
-    pub(crate) items: Vec<Vec<Item>>,
     pub(crate) image: Vec<u8>,
 }
 
 impl Model for Kept {
-    ghost use Rattle.std.specs.Prelude.{◌≡◌, map};
+    ghost use Rattle.std.specs.Prelude.{map};
     ghost use Rattle.std.specs.Arc.{arc_value};
     ghost use Rattle.call_order.specs.Units.{call_lists};
-    ghost use Rattle.rv_layout.specs.Layout.{item_lists};
     ghost use Rattle.cc_session.specs.Session.{PlainKept, coded_kept};
-    ghost use Rattle.cc_session.specs.Items.{items_of};
 
     ghost Value = { PlainKept };
 
@@ -44,8 +37,6 @@ impl Model for Kept {
       answers = map arc_value k.answers.items;
       image = k.image.items;
     } };
-
-    ghost invariant = { λ k. item_lists k.items.items ≡ items_of (map arc_value k.answers.items) };
 }
 
 /// The lambdas that are kept; none where there was no rebuild.
@@ -74,16 +65,6 @@ pub(crate) fn answers_of(last: &Option<Kept>) -> &[Arc<Optimised>]
 {
     match last {
         Some(kept) => kept.answers.as_slice(),
-        None => &[],
-    }
-}
-
-/// The items of the functions that are kept.
-pub(crate) fn items_of(last: &Option<Kept>) -> &[Vec<Item>]
-    ensures { item_lists result.now ≡ items_of (answers_of last.now) }
-{
-    match last {
-        Some(kept) => kept.items.as_slice(),
         None => &[],
     }
 }

@@ -15,11 +15,10 @@ ghost use Rattle.g_pass_stale.specs.Stale.{AreStale};
 ghost use Rattle.cc_session.specs.Session.{lambdas_of, deps_of, IsLast, IsSession};
 ghost use Rattle.cc_session.specs.Rebuilds.{AreRemade, IsRebuiltFrom};
 
-use crate::items::items_since;
-use crate::kept::{Kept, answers_of, deps_of, items_of, lambdas_of};
+use crate::kept::{Kept, answers_of, deps_of, lambdas_of};
 use board_work::Gate;
 use c_typed::Typed;
-use cc_compile::file_of_items;
+use cc_compile::file_with;
 use cc_compile::laws::answers_can_be_emitted;
 use cc_edit::AcceptedSource;
 use cc_source_keeps::laws::programs_can_be_emitted;
@@ -29,7 +28,6 @@ use g_pass::Recipe;
 use g_pass_order::laws::{complete_lists_know_calls, orders_are_unique};
 use g_pass_order::{Order, order};
 use g_pass_renew::renewed;
-use g_pass_stale::laws::unstale_answers_are_kept;
 use g_pass_stale::stale;
 use no_memory::NoMemory;
 use std::alloc::Global;
@@ -157,12 +155,10 @@ pub(crate) fn rebuild_from<H: Threads + Wait + Sync, G: Gate>(
     programs_can_be_emitted();
     answers_can_be_emitted();
     orders_are_unique();
-    unstale_answers_are_kept();
     let typed = now.typed();
     let graph = graph_of(alloc, typed)?;
     let made = remake(rt, alloc, &graph.lambdas, recipe, last, workers, gate)?;
-    let items = items_since(alloc, &made.answers, &made.stale, items_of(last))?;
-    let image = file_of_items(alloc, &graph, &items)?;
+    let image = file_with(alloc, &graph, &made.answers)?;
     let source = Vec::from_slice(alloc, now.source())?;
     let own = Vec::from_slice(alloc, &image)?;
     let jobs = count_of(&made.stale);
@@ -175,7 +171,6 @@ pub(crate) fn rebuild_from<H: Threads + Wait + Sync, G: Gate>(
             lambdas,
             deps: order.deps,
             answers,
-            items,
             image: own,
         },
     ))

@@ -1,4 +1,4 @@
--- Sweeps made at once, as sweeps of the table.
+-- Sweeps over an arena, as sweeps of the table.
 use Rattle.std.proofs.Common.{◌≡◌, ◌++◌, ℕ, Bool, true, false, List, [], ◌∷◌, length, take, Result, Ok, Err, OnOk, OnErr, IsTrue, refl, sym, ap, subst, ◌∙◌}
 use Rattle.std.specs.Prelude.{if◌then◌else◌}
 use Rattle.std.proofs.Math.Seq.{take-append_seam}
@@ -12,12 +12,11 @@ use Rattle.g_arena_def.specs.Flat.{Flat}
 use Rattle.g_pass_def.specs.Sweep.{sweep, in_order}
 use Rattle.r_sweep_def.specs.Swept.{Logged, Change, tried_by, swept_by}
 use Rattle.r_sweep_laws.specs.Fast.{HasSwept}
-use Rattle.g_pass.specs.Fast.{is_in_arena, is_fast, FastRulesKeep, change_of}
+use Rattle.g_pass.specs.Fast.{is_fast, FastRulesKeep, change_of}
 use Rattle.g_pass.specs.Sweep.{applies, applied, rules}
 use Rattle.r_cne.specs.Laws.{CneIsAStep}
 use Rattle.r_dne.specs.Laws.{DneIsAStep}
 use Rattle.r_inv.specs.Laws.{InvIsAStep}
-use Rattle.r_unroll.specs.Laws.{UrlIsAStep}
 use Rattle.g_pass.proofs.Folds.{sweeps_are_folds}
 
 abbrev pub logged : PlainLambda → List Step → Logged
@@ -26,16 +25,16 @@ logged l steps = record { lambda = l; steps = steps }
 is_no_truth : {A : Type 0} → false ≡ true → A
 is_no_truth e = absurd cc
 
-pub fast_rules_keep : CneIsAStep → DneIsAStep → InvIsAStep → UrlIsAStep → FastRulesKeep
-fast_rules_keep cne dne inv url Cne n l fast well = (cne [] n l well).well_formed
-fast_rules_keep cne dne inv url Dne n l fast well = (dne [] n l well).well_formed
-fast_rules_keep cne dne inv url Inv n l fast well = (inv [] n l well).well_formed
-fast_rules_keep cne dne inv url Fold n l fast well = is_no_truth fast
-fast_rules_keep cne dne inv url Push n l fast well = is_no_truth fast
-fast_rules_keep cne dne inv url Pull n l fast well = is_no_truth fast
-fast_rules_keep cne dne inv url Invert n l fast well = is_no_truth fast
-fast_rules_keep cne dne inv url Unroll n l fast well = (url [] n l well).well_formed
-fast_rules_keep cne dne inv url Inline n l fast well = is_no_truth fast
+pub fast_rules_keep : CneIsAStep → DneIsAStep → InvIsAStep → FastRulesKeep
+fast_rules_keep cne dne inv Cne n l fast well = (cne [] n l well).well_formed
+fast_rules_keep cne dne inv Dne n l fast well = (dne [] n l well).well_formed
+fast_rules_keep cne dne inv Inv n l fast well = (inv [] n l well).well_formed
+fast_rules_keep cne dne inv Fold n l fast well = is_no_truth fast
+fast_rules_keep cne dne inv Push n l fast well = is_no_truth fast
+fast_rules_keep cne dne inv Pull n l fast well = is_no_truth fast
+fast_rules_keep cne dne inv Invert n l fast well = is_no_truth fast
+fast_rules_keep cne dne inv Unroll n l fast well = is_no_truth fast
+fast_rules_keep cne dne inv Inline n l fast well = is_no_truth fast
 
 -- ---- a sweep of a fast rule keeps a lambda well formed, and what the log had
 
@@ -82,18 +81,6 @@ has_added c ns l before after a h = let m = sweeps_add c ns (logged l before) in
 -- a log that has gained steps, cut back
 pub cut_back : (before after now : List Step) (n : ℕ) → HasAdded before after → n ≡ length before → now ≡ take n after → now ≡ before
 cut_back before after now n h e f = f ∙ ap (λ k. take k after) e ∙ ap (take (length before)) h.1 ∙ take-append_seam before h.0
-
--- a rule that is swept over an arena is swept at once
-pub arena_is_fast : (r : Rule) → IsTrue (is_in_arena r) → IsTrue (is_fast r)
-arena_is_fast Cne h = refl
-arena_is_fast Dne h = refl
-arena_is_fast Inv h = refl
-arena_is_fast Fold h = is_no_truth h
-arena_is_fast Push h = is_no_truth h
-arena_is_fast Pull h = is_no_truth h
-arena_is_fast Invert h = is_no_truth h
-arena_is_fast Unroll h = is_no_truth h
-arena_is_fast Inline h = is_no_truth h
 
 -- ---- a sweep over an arena
 

@@ -1,7 +1,7 @@
--- Which rules are swept at once, over an arena or in one walk, and a sweep of a rule as the fold of its test and its change.
+-- Which rules are swept over an arena, and a sweep of a rule as the fold of its test and its change.
 use Rattle.std.specs.Prelude.{◌≡◌, ℕ, Bool, true, false, List, IsTrue}
 use Rattle.g_graph.specs.declared.steps.Rule.{Rule}
-use Rattle.g_graph.specs.declared.steps.Rule.TheVariants.{Cne, Dne, Inv, Unroll, Inline}
+use Rattle.g_graph.specs.declared.steps.Rule.TheVariants.{Cne, Dne, Inv, Inline}
 use Rattle.g_graph.specs.declared.steps.Step.{Step}
 use Rattle.g_graph.specs.Plain.{PlainLambda}
 use Rattle.g_graph.specs.Ids.{region_ids}
@@ -10,17 +10,10 @@ use Rattle.r_sweep_def.specs.Swept.{Change, swept_by}
 use Rattle.g_pass_def.specs.Sweep.{sweep, in_order}
 use Rattle.g_pass.specs.Sweep.{applies, applied, rules}
 
-abbrev pub is_in_arena : Rule → Bool
-is_in_arena Cne = true
-is_in_arena Dne = true
-is_in_arena Inv = true
-is_in_arena _ = false
-
 abbrev pub is_fast : Rule → Bool
 is_fast Cne = true
 is_fast Dne = true
 is_fast Inv = true
-is_fast Unroll = true
 is_fast _ = false
 
 -- what such a rule makes of a well-formed lambda is well formed

@@ -1,7 +1,6 @@
-//! Sweeps at once, over an arena of the lambda or in one walk along it, which take time linear in it
-//! but for what a walk's rule takes.
+//! Sweeps over an arena of the lambda, which take time linear in it.
 
-ghost use Rattle.std.specs.Prelude.{◌≡◌, ◌<◌, ◌++◌, ℕ, false, List, take, IfOk, OnErr, OnOk, IsTrue};
+ghost use Rattle.std.specs.Prelude.{◌≡◌, ◌<◌, ◌++◌, ℕ, List, take, IfOk, OnErr, OnOk, IsTrue};
 ghost use Rattle.g_graph.specs.Ids.{region_ids};
 ghost use Rattle.g_graph.specs.Plain.{PlainLambda};
 ghost use Rattle.g_graph.specs.WellFormed.{IsWellFormed};
@@ -10,7 +9,7 @@ ghost use Rattle.g_arena_def.specs.Flat.{StandsFor};
 ghost use Rattle.g_pass_def.specs.Sweep.{in_order};
 ghost use Rattle.r_sweep_def.specs.Swept.{swept_by};
 ghost use Rattle.r_sweep_laws.specs.Fast.{HasSwept, IsWhole};
-ghost use Rattle.g_pass.specs.Fast.{change_of, is_in_arena, is_fast, FastRulesKeep};
+ghost use Rattle.g_pass.specs.Fast.{change_of, is_fast, FastRulesKeep};
 ghost use Rattle.g_pass.specs.Sweep.{rules};
 
 use g_arena::Arena;
@@ -21,16 +20,9 @@ use std::marker::Brand;
 use std::sync::ledger::{Blank, Ledger};
 use steps::Steps;
 
-/// Whether a sweep of the rule is made at once.
+/// Whether a sweep of the rule goes over an arena.
 pub const fn is_fast(rule: Rule) -> bool
     ensures { result ≡ is_fast rule }
-{
-    matches!(rule, Rule::Cne | Rule::Dne | Rule::Inv | Rule::Unroll)
-}
-
-/// Whether a sweep of the rule goes over an arena.
-pub const fn is_in_arena(rule: Rule) -> bool
-    ensures { result ≡ is_in_arena rule }
 {
     matches!(rule, Rule::Cne | Rule::Dne | Rule::Inv)
 }
@@ -53,34 +45,12 @@ pub fn swept_fast(
     ensures err { OnErr result (log.new.items ≡ log.old.items) }
 {
     let len = log.len();
-    match swept_whole(alloc, rule, lambda, log) {
+    match swept_in::<Brand>(alloc, Blank::new(1), rule, lambda, log) {
         Ok(made) => Ok(made),
         Err(fault) => {
             log.truncate(len);
             Err(fault)
         }
-    }
-}
-
-// The sweep. After NoMemory the log may have steps more.
-fn swept_whole(
-    alloc: Global,
-    rule: Rule,
-    lambda: Lambda,
-    log: &mut Vec<Step>,
-) -> Result<Lambda, NoMemory>
-    requires fast { IsTrue (is_fast rule) }
-    requires well_formed { IsWellFormed lambda }
-    ensures ok { IfOk result (λ made. record { lambda = made; steps = log.new.items } ≡
-        swept_by (change_of rule) (in_order rules rule (region_ids lambda.body))
-        (record { lambda = lambda; steps = log.old.items })) }
-    ensures kept { IfOk result (λ made. IsWellFormed made) }
-    ensures err { OnErr result ((added : List Step) × (log.new.items ≡ log.old.items ++ added)) }
-{
-    if is_in_arena(rule) {
-        swept_in::<Brand>(alloc, Blank::new(1), rule, lambda, log)
-    } else {
-        walked(alloc, rule, lambda, log)
     }
 }
 
@@ -95,7 +65,7 @@ fn swept_in<L: Ledger>(
     requires name { blank.name ≡ L.name }
     requires parts { blank.parts ≡ L.parts }
     requires some { 0 < blank.parts }
-    requires in_arena { IsTrue (is_in_arena rule) }
+    requires fast { IsTrue (is_fast rule) }
     requires well_formed { IsWellFormed lambda }
     ensures ok { IfOk result (λ made. record { lambda = made; steps = log.new.items } ≡
         swept_by (change_of rule) (in_order rules rule (region_ids lambda.body))
@@ -115,29 +85,6 @@ fn swept_in<L: Ledger>(
     }
 }
 
-// The sweep in one walk. After NoMemory the log may have steps more.
-fn walked(
-    alloc: Global,
-    rule: Rule,
-    lambda: Lambda,
-    log: &mut Vec<Step>,
-) -> Result<Lambda, NoMemory>
-    requires fast { IsTrue (is_fast rule) }
-    requires no_arena { is_in_arena rule ≡ false }
-    requires well_formed { IsWellFormed lambda }
-    ensures ok { IfOk result (λ made. record { lambda = made; steps = log.new.items } ≡
-        swept_by (change_of rule) (in_order rules rule (region_ids lambda.body))
-        (record { lambda = lambda; steps = log.old.items })) }
-    ensures kept { IfOk result (λ made. IsWellFormed made) }
-    ensures err { OnErr result ((added : List Step) × (log.new.items ≡ log.old.items ++ added)) }
-{
-    fast_rules_keep();
-    match rule {
-        Rule::Unroll => r_unroll_walk::sweep_fast(alloc, lambda, log),
-        _ => unreachable!(),
-    }
-}
-
 // The sweep of a rule over an arena.
 fn sweep_arena<L: Ledger>(
     alloc: Global,
@@ -146,7 +93,7 @@ fn sweep_arena<L: Ledger>(
     log: &mut Vec<Step>,
     looks: &mut Steps<L>,
 ) -> Result<(), NoMemory>
-    requires in_arena { IsTrue (is_in_arena rule) }
+    requires fast { IsTrue (is_fast rule) }
     requires whole { IsWhole arena.old }
     ensures ok { (l : PlainLambda) → StandsFor arena.old l → IsWellFormed l → OnOk result
         (HasSwept (change_of rule) (in_order rules rule (region_ids l.body)) l log.old.items
@@ -171,5 +118,4 @@ fn fast_rules_keep()
     r_cne::laws::cne_keeps_meaning();
     r_dne::laws::dne_keeps_meaning();
     r_inv::laws::inv_keeps_meaning();
-    r_unroll::laws::url_keeps_meaning();
 }

@@ -13,7 +13,7 @@ ghost use Rattle.g_pass.specs.Fast.{change_of, is_fast};
 ghost use Rattle.g_pass.specs.Sweep.{rules};
 
 use crate::Recipe;
-use crate::fast::{is_fast, is_in_arena, swept_fast};
+use crate::fast::{is_fast, swept_fast};
 use crate::rule_step::{is_backward, try_step};
 use g_graph::{Lambda, Optimised, Rule, Step, StepList, copy_of, ids, values};
 use no_memory::NoMemory;
@@ -36,8 +36,7 @@ fn numbers(alloc: Global, rule: Rule, lambda: &Lambda) -> Result<Vec<u32>, NoMem
 /// functions that the lambda calls were made into. The steps that applied are appended to the log.
 /// `NoMemory` only where the allocator has none, or where a node or a region has more than
 /// 4294967295 contents of a kind; the lambda is then the one after the logged steps. A sweep of
-/// `cne`, `dne`, `inv` or `url` takes time n log n in the lambda, any other one linear time for each
-/// of its nodes.
+/// `cne`, `dne` or `inv` takes time linear in the lambda, any other one for each of its nodes.
 pub fn sweep(
     alloc: Global,
     rule: Rule,
@@ -63,7 +62,7 @@ pub fn sweep(
     }
 }
 
-// The sweep at once, of a copy.
+// The sweep over an arena of a copy.
 fn sweep_copy(
     alloc: Global,
     rule: Rule,
@@ -113,11 +112,11 @@ fn sweep_steps(
 // arena takes longer than to ask it at each of its nodes.
 const LEAST_VALUES: u64 = 1024;
 
-// Whether a recipe sweeps the rule over the lambda at once. What it answers changes no result.
+// Whether a recipe sweeps the rule over an arena of the lambda. What it answers changes no result.
 fn is_put_in(rule: Rule, lambda: &Lambda) -> bool
     ensures { IsTrue result → IsTrue (is_fast rule) }
 {
-    is_fast(rule) && (!is_in_arena(rule) || values(lambda) >= LEAST_VALUES)
+    is_fast(rule) && values(lambda) >= LEAST_VALUES
 }
 
 // What a sweep makes of a lambda, of which no copy is made.

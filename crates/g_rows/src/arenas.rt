@@ -1,6 +1,6 @@
-//! Arenas and walks. `check` puts a lambda that is well formed into an arena and takes it out
-//! again, and sweeps `cne`, `dne`, `inv` and `url` over it step by step and at once; it says where the
-//! two differ. `left NODES` sweeps `dne` over an arena of the lambda, and says which of these nodes the
+//! Arenas. `check` puts a lambda that is well formed into an arena and takes it out again, and
+//! sweeps `cne`, `dne` and `inv` over it step by step and over an arena; it says where the two
+//! differ. `left NODES` sweeps `dne` over an arena of the lambda, and says which of these nodes the
 //! arena then has.
 
 ghost use Rattle.std.specs.Prelude.{◌≡◌, ◌<◌};
@@ -79,7 +79,7 @@ fn compare(row: &mut Row, lambda: &Lambda) -> Result<(), NoMemory>
     if !comes_back(row.alloc, lambda)? {
         row.say("another lambda comes out of an arena")?;
     }
-    for rule in [Rule::Cne, Rule::Dne, Rule::Inv, Rule::Unroll] {
+    for rule in [Rule::Cne, Rule::Dne, Rule::Inv] {
         if !agree(row.alloc, rule, lambda)? {
             row.say(rule_name(rule))?;
             row.say("sweeps differ")?;

@@ -10,4 +10,3 @@ mod Counted
 mod Found
 mod Made
 mod Followed
-mod Nodes

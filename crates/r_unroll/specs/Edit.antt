@@ -51,8 +51,3 @@ node_followed values next last outs x = None
 abbrev pub followed_at : (values next n : ℕ) → (last : NodeTree) → (outs : List Origin) → RegionTree → Option RegionTree
 followed_at values next n last outs (region args nodes results) =
     option_map (λ y. region args (node_set n y nodes) results) (option_and_then (node_followed values next last outs) (node_at n nodes))
-
--- how many numbers the loop with these regions takes: of the Gamma, of the Const, and of the copy of its region
-abbrev pub loop_numbers : RegionTrees → ℕ
-loop_numbers no_regions = 0
-loop_numbers (region_then r rs) = 2 + node_count r

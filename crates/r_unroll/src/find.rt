@@ -74,9 +74,8 @@ pub fn loop_body(node: &Node, values: u64, next: u32) -> Option<&Region>
     }
 }
 
-/// The only one of these regions, where it may be unrolled as that of a loop.
 #[tactic(auto, using(crate::proofs::Counted::only_body_none))]
-pub fn only_body(regions: &[Region], values: u64, next: u32) -> Option<&Region>
+fn only_body(regions: &[Region], values: u64, next: u32) -> Option<&Region>
     ensures { option_copied result ≡ only_body values next (regions_of regions.now) }
 {
     if regions.len() != 1 {

@@ -53,8 +53,7 @@ fn follow_only(regions: &mut Vec<Region>, last: Node, results: Vec<Origin>) -> R
     follow(&mut regions[0], last, results)
 }
 
-/// Gives a region a last node and results.
-pub fn follow(region: &mut Region, last: Node, results: Vec<Origin>) -> Result<(), NoMemory>
+fn follow(region: &mut Region, last: Node, results: Vec<Origin>) -> Result<(), NoMemory>
     ensures ok { OnOk result (region.new ≡ followed_by last results.items region.old) }
     ensures err { OnErr result (region.new ≡ region.old) }
 {

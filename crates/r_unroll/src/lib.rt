@@ -7,9 +7,7 @@
 mod find;
 mod follow;
 pub mod laws;
-mod node;
 mod rule;
 mod turn;
 
-pub use node::{UnrolledNode, unrolled_node};
 pub use rule::{applies, apply};

@@ -56,8 +56,8 @@ pub fn turn_of(
     }
 }
 
-/// The second turn of a loop with this region, with numbers from `next` on.
-pub fn second_turn(alloc: Global, region: &Region, next: u32) -> Result<Turn, NoMemory>
+// The second turn of a loop with this region, with numbers from `next` on.
+fn second_turn(alloc: Global, region: &Region, next: u32) -> Result<Turn, NoMemory>
     requires closed { IsClosed region.now }
     requires small { region_values region.now ≤ most_loop_values }
     requires numbers { next + 2 + node_count region.now < 2 ^ 32 }

@@ -3,7 +3,7 @@ use Rattle.std.specs.Arc.{arc_value}
 use Rattle.g_graph.specs.Plain.{PlainOptimised}
 use Rattle.cc_emit_def.specs.Image.{function_items}
 use Rattle.cc_emit_def.specs.Laws.{IsFunction}
-use Rattle.cc_emit.proofs.lemmas.Answered.{answer_at, items_more}
+use Rattle.cc_emit.proofs.Answered.{answer_at, items_more}
 use Rattle.cc_emit.proofs.functions.all_items.Goals as goal
 
 pub function_items-requires : goal.function_items-requires

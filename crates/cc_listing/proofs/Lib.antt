@@ -1,0 +1,7 @@
+mod Cut
+mod WordLemmas
+mod LineLemmas
+mod FunctionLemmas
+mod ImageLemmas
+mod Listed
+mod TextLemmas

@@ -1,3 +1,0 @@
-pub mod Callees
-pub mod Asked
-pub mod Laws

@@ -1,8 +1,0 @@
-//! A sweep of unrolling, in one walk.
-//! Promise: what the sweep makes, and its steps, are those of the rule at each node of the lambda,
-//! one after the other.
-#![tactic(auto)]
-
-mod sweep;
-
-pub use sweep::sweep_fast;
