@@ -1,0 +1,6 @@
+//! A stand-in.
+#![tactic(auto)]
+
+mod fault;
+
+pub use fault::CompileFault;
