@@ -1,5 +1,5 @@
 -- Sweeps made at once, as sweeps of the table.
-use Rattle.std.proofs.Common.{◌≡◌, ◌++◌, ℕ, Bool, true, false, List, [], ◌∷◌, length, take, Result, Ok, Err, OnOk, OnErr, IsTrue, refl, sym, ap, subst, ◌∙◌}
+use Rattle.std.proofs.Common.{◌≡◌, ◌++◌, ℕ, Bool, true, false, List, [], ◌∷◌, length, take, Result, Ok, Err, IfOk, OnOk, OnErr, IsTrue, refl, sym, ap, subst, ◌∙◌}
 use Rattle.std.specs.Prelude.{if◌then◌else◌}
 use Rattle.std.proofs.Math.Seq.{take-append_seam}
 use Rattle.g_graph.specs.declared.steps.Rule.{Rule}
@@ -18,7 +18,9 @@ use Rattle.r_cne.specs.Laws.{CneIsAStep}
 use Rattle.r_dne.specs.Laws.{DneIsAStep}
 use Rattle.r_inv.specs.Laws.{InvIsAStep}
 use Rattle.r_unroll.specs.Laws.{UrlIsAStep}
-use Rattle.g_pass.proofs.Folds.{sweeps_are_folds}
+use Rattle.r_invert.specs.Laws.{IvtIsAStep}
+use Rattle.r_inline_laws.specs.Callees.{inline_change}
+use Rattle.g_pass.proofs.Folds.{sweeps_are_folds, inline_sweeps_are_folds}
 
 abbrev pub logged : PlainLambda → List Step → Logged
 logged l steps = record { lambda = l; steps = steps }
@@ -26,16 +28,16 @@ logged l steps = record { lambda = l; steps = steps }
 is_no_truth : {A : Type 0} → false ≡ true → A
 is_no_truth e = absurd cc
 
-pub fast_rules_keep : CneIsAStep → DneIsAStep → InvIsAStep → UrlIsAStep → FastRulesKeep
-fast_rules_keep cne dne inv url Cne n l fast well = (cne [] n l well).well_formed
-fast_rules_keep cne dne inv url Dne n l fast well = (dne [] n l well).well_formed
-fast_rules_keep cne dne inv url Inv n l fast well = (inv [] n l well).well_formed
-fast_rules_keep cne dne inv url Fold n l fast well = is_no_truth fast
-fast_rules_keep cne dne inv url Push n l fast well = is_no_truth fast
-fast_rules_keep cne dne inv url Pull n l fast well = is_no_truth fast
-fast_rules_keep cne dne inv url Invert n l fast well = is_no_truth fast
-fast_rules_keep cne dne inv url Unroll n l fast well = (url [] n l well).well_formed
-fast_rules_keep cne dne inv url Inline n l fast well = is_no_truth fast
+pub fast_rules_keep : CneIsAStep → DneIsAStep → InvIsAStep → UrlIsAStep → IvtIsAStep → FastRulesKeep
+fast_rules_keep cne dne inv url ivt Cne n l fast well = (cne [] n l well).well_formed
+fast_rules_keep cne dne inv url ivt Dne n l fast well = (dne [] n l well).well_formed
+fast_rules_keep cne dne inv url ivt Inv n l fast well = (inv [] n l well).well_formed
+fast_rules_keep cne dne inv url ivt Fold n l fast well = is_no_truth fast
+fast_rules_keep cne dne inv url ivt Push n l fast well = is_no_truth fast
+fast_rules_keep cne dne inv url ivt Pull n l fast well = is_no_truth fast
+fast_rules_keep cne dne inv url ivt Invert n l fast well = (ivt [] n l well).well_formed
+fast_rules_keep cne dne inv url ivt Unroll n l fast well = (url [] n l well).well_formed
+fast_rules_keep cne dne inv url ivt Inline n l fast well = well
 
 -- ---- a sweep of a fast rule keeps a lambda well formed, and what the log had
 
@@ -103,10 +105,6 @@ on_ok {A} {B} {P} x v e h = subst (λ (y : Result A B). OnOk y P) e h
 pub at_err : {A B P : Type 0} (x : Result A B) (v : B) → x ≡ Err v → OnErr x P → P
 at_err {A} {B} {P} x v e h = subst (λ (y : Result A B). OnErr y P) e h
 
-pub ok_after : {A B P Q : Type 0} (x : Result A B) → (P → Q) → OnOk x P → OnOk x Q
-ok_after (Ok v) f h = f h
-ok_after (Err e) f h = tt
-
 pub of_rule_ok : {A B : Type 0} (x : Result A B) (r s : Rule) (l : PlainLambda) (before after : List Step) (a : Flat) → r ≡ s →
     OnOk x (HasSwept (change_of s) (in_order rules s (region_ids l.body)) l before a after) → OnOk x (HasSwept (change_of r) (in_order rules r (region_ids l.body)) l before a after)
 of_rule_ok x r s l before after a e h = subst (λ q. OnOk x (HasSwept (change_of q) (in_order rules q (region_ids l.body)) l before a after)) (sym e) h
@@ -119,11 +117,45 @@ of_rule_err x r s l before after a e h =
 
 -- ---- as a sweep of the table
 
-pub not_inline : (r : Rule) → IsTrue (is_fast r) → r ≡ Inline → ⊥
-not_inline r fast e = is_no_truth (subst (λ q. IsTrue (is_fast q)) e fast)
+-- no rule that is swept over an arena looks at callees
+pub not_inline : (r : Rule) → IsTrue (is_in_arena r) → r ≡ Inline → ⊥
+not_inline r in_arena e = is_no_truth (subst (λ q. IsTrue (is_in_arena q)) e in_arena)
 
-pub is_sweep : (r : Rule) (callees : List PlainLambda) (l k : PlainLambda) (before after : List Step) → IsTrue (is_fast r) →
+pub is_sweep : (r : Rule) (callees : List PlainLambda) (l k : PlainLambda) (before after : List Step) → (r ≡ Inline → ⊥) →
     logged k after ≡ swept_by (change_of r) (in_order rules r (region_ids l.body)) (logged l before) →
     record { lambda = k; steps = after } ≡ sweep rules callees (record { lambda = l; steps = before }) r
-is_sweep r callees l k before after fast e =
-    (λ i. record { lambda = (e i).lambda; steps = (e i).steps }) ∙ sym (sweeps_are_folds r (not_inline r fast) callees l before)
+is_sweep r callees l k before after alone e =
+    (λ i. record { lambda = (e i).lambda; steps = (e i).steps }) ∙ sym (sweeps_are_folds r alone callees l before)
+
+pub is_sweep_of_calls : (callees : List PlainLambda) (l k : PlainLambda) (before after : List Step) →
+    logged k after ≡ swept_by (inline_change callees) (region_ids l.body) (logged l before) →
+    record { lambda = k; steps = after } ≡ sweep rules callees (record { lambda = l; steps = before }) Inline
+is_sweep_of_calls callees l k before after e =
+    (λ i. record { lambda = (e i).lambda; steps = (e i).steps }) ∙ sym (inline_sweeps_are_folds callees l before)
+
+-- ---- as answers
+
+pub alone_ok : {B : Type 0} (x : Result PlainLambda B) (r : Rule) (callees : List PlainLambda) (l : PlainLambda) (before after : List Step) → (r ≡ Inline → ⊥) →
+    IfOk x (λ made. logged made after ≡ swept_by (change_of r) (in_order rules r (region_ids l.body)) (logged l before)) →
+    IfOk x (λ made. record { lambda = made; steps = after } ≡ sweep rules callees (record { lambda = l; steps = before }) r)
+alone_ok (Ok made) r callees l before after alone e = is_sweep r callees l made before after alone e
+alone_ok (Err fault) r callees l before after alone e = tt
+
+pub of_rule_alone : {B : Type 0} (x : Result PlainLambda B) (r s : Rule) (callees : List PlainLambda) (l : PlainLambda) (before after : List Step) → r ≡ s → (s ≡ Inline → ⊥) →
+    IfOk x (λ made. logged made after ≡ swept_by (change_of s) (in_order rules s (region_ids l.body)) (logged l before)) →
+    IfOk x (λ made. record { lambda = made; steps = after } ≡ sweep rules callees (record { lambda = l; steps = before }) r)
+of_rule_alone x r s callees l before after e alone h =
+    subst (λ q. IfOk x (λ made. record { lambda = made; steps = after } ≡ sweep rules callees (record { lambda = l; steps = before }) q)) (sym e)
+    (alone_ok x s callees l before after alone h)
+
+pub of_calls : {B : Type 0} (x : Result PlainLambda B) (r : Rule) (callees : List PlainLambda) (l : PlainLambda) (before after : List Step) → r ≡ Inline →
+    IfOk x (λ made. logged made after ≡ swept_by (inline_change callees) (region_ids l.body) (logged l before)) →
+    IfOk x (λ made. record { lambda = made; steps = after } ≡ sweep rules callees (record { lambda = l; steps = before }) r)
+of_calls (Ok made) r callees l before after e h =
+    subst (λ q. record { lambda = made; steps = after } ≡ sweep rules callees (record { lambda = l; steps = before }) q) (sym e) (is_sweep_of_calls callees l made before after h)
+of_calls (Err fault) r callees l before after e h = tt
+
+pub walk_keeps : {B : Type 0} (x : Result PlainLambda B) (r : Rule) → IsTrue (is_fast r) → FastRulesKeep → (ns : List ℕ) (l : PlainLambda) (before after : List Step) → IsWellFormed l →
+    IfOk x (λ made. logged made after ≡ swept_by (change_of r) ns (logged l before)) → IfOk x IsWellFormed
+walk_keeps (Ok made) r fast keep ns l before after well e = subst IsWellFormed (sym (ap (λ z. z.lambda) e)) (sweeps_keep r fast keep ns (logged l before) well)
+walk_keeps (Err fault) r fast keep ns l before after well e = tt

@@ -1,13 +1,16 @@
 -- A sweep is the fold of the test and the change of its rule.
-use Rattle.std.proofs.Common.{◌≡◌, ◌++◌, ℕ, Bool, true, false, List, [], ◌∷◌, None, Some, refl, ap, ◌∙◌}
-use Rattle.std.specs.Prelude.{if◌then◌else◌}
+use Rattle.std.proofs.Common.{◌≡◌, ◌++◌, ℕ, Bool, true, false, List, [], ◌∷◌, Option, None, Some, option_map, refl, ap, ◌∙◌}
+use Rattle.std.specs.Prelude.{if◌then◌else◌, is_some, unwrap_or}
 use Rattle.std.specs.List.{fold}
 use Rattle.g_graph.specs.declared.steps.Rule.{Rule}
 use Rattle.g_graph.specs.declared.steps.Rule.TheVariants.{Fold, Cne, Dne, Inv, Push, Pull, Invert, Unroll, Inline}
+use Rattle.g_graph.specs.declared.steps.Step.{Step}
 use Rattle.g_graph.specs.Plain.{PlainLambda}
 use Rattle.g_graph.specs.Ids.{region_ids}
-use Rattle.r_sweep_def.specs.Swept.{Logged, tried_by}
-use Rattle.g_pass_def.specs.Sweep.{Swept, stepped, tried, in_order}
+use Rattle.r_inline.specs.Rule.{iln}
+use Rattle.r_inline_laws.specs.Callees.{inlined_at, inline_change}
+use Rattle.r_sweep_def.specs.Swept.{Logged, tried_by, swept_by}
+use Rattle.g_pass_def.specs.Sweep.{Swept, stepped, tried, in_order, sweep}
 use Rattle.g_pass.specs.Sweep.{applies, applied, step, rules}
 use Rattle.g_pass.specs.Fast.{change_of, SweepsAreFolds}
 
@@ -41,3 +44,23 @@ module _ (r : Rule) (h : r ≡ Inline → ⊥) (callees : List PlainLambda) wher
 
 pub sweeps_are_folds : SweepsAreFolds
 sweeps_are_folds r h callees l steps = folds_are r h callees (in_order rules r (region_ids l.body)) (record { lambda = l; steps = steps })
+
+-- ---- inlining
+
+module _ (callees : List PlainLambda) where
+  inlining_is : (s : Logged) (n : ℕ) → tried rules callees Inline (as_swept s) n ≡ as_swept (tried_by (inline_change callees) s n)
+  inlining_is s n = by (inlined_at callees n s.lambda)
+    where
+      by : (o : Option PlainLambda) → stepped Inline n (as_swept s) (option_map (λ c. iln n c s.lambda) o)
+          ≡ as_swept (if is_some o
+          then record { lambda = unwrap_or (option_map (λ c. iln n c s.lambda) o) s.lambda; steps = s.steps ++ record { rule = Inline; node = n } ∷ [] } else s)
+      by None = refl
+      by (Some c) = refl
+
+  inlining_folds : (ns : List ℕ) (s : Logged) → fold (tried rules callees Inline) (as_swept s) ns ≡ as_swept (fold (tried_by (inline_change callees)) s ns)
+  inlining_folds [] s = refl
+  inlining_folds (n ∷ ns) s = ap (λ t. fold (tried rules callees Inline) t ns) (inlining_is s n) ∙ inlining_folds ns (tried_by (inline_change callees) s n)
+
+pub inline_sweeps_are_folds : (callees : List PlainLambda) (l : PlainLambda) (steps : List Step) →
+    sweep rules callees (record { lambda = l; steps = steps }) Inline ≡ as_swept (swept_by (inline_change callees) (region_ids l.body) (record { lambda = l; steps = steps }))
+inline_sweeps_are_folds callees l steps = inlining_folds callees (region_ids l.body) (record { lambda = l; steps = steps })

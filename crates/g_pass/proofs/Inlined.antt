@@ -6,7 +6,8 @@ use Rattle.g_graph.specs.declared.steps.Rule.{Rule}
 use Rattle.g_graph.specs.declared.steps.Rule.TheVariants.{Fold, Cne, Dne, Inv, Push, Pull, Invert, Unroll, Inline}
 use Rattle.r_inline.specs.Rule as inline_rule
 use Rattle.r_inline.specs.Called.{called_at}
-use Rattle.g_pass.specs.Sweep.{applies, applied, numbered, inlined_at, step}
+use Rattle.r_inline_laws.specs.Callees.{numbered, inlined_at}
+use Rattle.g_pass.specs.Sweep.{applies, applied, step}
 
 -- ---- the callee
 

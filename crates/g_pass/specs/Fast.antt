@@ -1,7 +1,7 @@
 -- Which rules are swept at once, over an arena or in one walk, and a sweep of a rule as the fold of its test and its change.
 use Rattle.std.specs.Prelude.{◌≡◌, ℕ, Bool, true, false, List, IsTrue}
 use Rattle.g_graph.specs.declared.steps.Rule.{Rule}
-use Rattle.g_graph.specs.declared.steps.Rule.TheVariants.{Cne, Dne, Inv, Unroll, Inline}
+use Rattle.g_graph.specs.declared.steps.Rule.TheVariants.{Cne, Dne, Inv, Unroll, Invert, Inline}
 use Rattle.g_graph.specs.declared.steps.Step.{Step}
 use Rattle.g_graph.specs.Plain.{PlainLambda}
 use Rattle.g_graph.specs.Ids.{region_ids}
@@ -21,13 +21,15 @@ is_fast Cne = true
 is_fast Dne = true
 is_fast Inv = true
 is_fast Unroll = true
+is_fast Invert = true
+is_fast Inline = true
 is_fast _ = false
 
 -- what such a rule makes of a well-formed lambda is well formed
 abbrev pub FastRulesKeep : Type 0
 FastRulesKeep = (r : Rule) (n : ℕ) (l : PlainLambda) → IsTrue (is_fast r) → IsWellFormed l → IsWellFormed (applied r n l)
 
--- the test and the change of a rule of the table
+-- the test and the change of a rule that looks at its lambda alone
 abbrev pub change_of : Rule → Change
 change_of r = record { rule = r; applies = applies r; changed = applied r }
 

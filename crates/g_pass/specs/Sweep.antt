@@ -1,5 +1,5 @@
 -- The rules: where each applies, what it makes of a lambda there, and in which direction it is swept.
-use Rattle.std.specs.Prelude.{ℕ, ◌==◌, Bool, true, false, List, [], ◌∷◌, Option, None, Some, option_map, option_and_then, if◌then◌else◌}
+use Rattle.std.specs.Prelude.{ℕ, Bool, true, false, List, Option, None, Some, option_map, if◌then◌else◌}
 use Rattle.g_graph.specs.declared.steps.Rule.{Rule}
 use Rattle.g_graph.specs.declared.steps.Rule.TheVariants.{Fold, Cne, Dne, Inv, Push, Pull, Invert, Unroll, Inline}
 use Rattle.g_graph.specs.Plain.{PlainLambda}
@@ -13,7 +13,7 @@ use Rattle.r_pull.specs.Rule as pull_rule
 use Rattle.r_unroll.specs.Rule as unroll_rule
 use Rattle.r_invert.specs.Rule as invert_rule
 use Rattle.r_inline.specs.Rule as inline_rule
-use Rattle.r_inline.specs.Called.{called_at}
+use Rattle.r_inline_laws.specs.Callees.{inlined_at}
 
 -- Whether a rule that looks at its lambda alone applies at a node, and what it makes of the lambda there. Inlining looks
 -- at callees too.
@@ -50,16 +50,6 @@ is_backward Pull = true
 is_backward Invert = false
 is_backward Unroll = false
 is_backward Inline = false
-
--- the first of these lambdas that has the number
-abbrev pub numbered : ℕ → List PlainLambda → Option PlainLambda
-numbered f [] = None
-numbered f (c ∷ callees) = if c.number == f then Some c else numbered f callees
-
--- the callee that comes in the place of the call at a node
-abbrev pub inlined_at : (callees : List PlainLambda) → (node : ℕ) → PlainLambda → Option PlainLambda
-inlined_at callees n l =
-    option_and_then (λ f. option_and_then (λ c. if inline_rule.applies l n c then Some c else None) (numbered f callees)) (called_at n l)
 
 -- what a rule makes of a lambda at a node where it applies
 abbrev pub step : Rule → (callees : List PlainLambda) → (node : ℕ) → PlainLambda → Option PlainLambda

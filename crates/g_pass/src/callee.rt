@@ -5,7 +5,7 @@ ghost use Rattle.std.specs.Arc.{arc_value};
 ghost use Rattle.g_graph.specs.WellFormed.{IsWellFormed};
 ghost use Rattle.g_pass_def.specs.Answers.{lambdas_of};
 ghost use Rattle.r_inline.specs.Rule as inline_rule;
-ghost use Rattle.g_pass.specs.Sweep.{numbered, inlined_at};
+ghost use Rattle.r_inline_laws.specs.Callees.{numbered, inlined_at};
 
 use g_graph::{Lambda, Optimised};
 use std::sync::Arc;

@@ -1,23 +1,26 @@
 //! Sweeps at once, over an arena of the lambda or in one walk along it, which take time linear in it
 //! but for what a walk's rule takes.
 
-ghost use Rattle.std.specs.Prelude.{◌≡◌, ◌<◌, ◌++◌, ℕ, false, List, take, IfOk, OnErr, OnOk, IsTrue};
+ghost use Rattle.std.specs.Prelude.{◌≡◌, ◌<◌, ◌++◌, ℕ, false, List, map, take, IfOk, OnErr, OnOk, IsTrue};
+ghost use Rattle.std.specs.Arc.{arc_value};
 ghost use Rattle.g_graph.specs.Ids.{region_ids};
 ghost use Rattle.g_graph.specs.Plain.{PlainLambda};
 ghost use Rattle.g_graph.specs.WellFormed.{IsWellFormed};
 ghost use Rattle.g_graph.specs.declared.steps.Step.{Step};
 ghost use Rattle.g_arena_def.specs.Flat.{StandsFor};
-ghost use Rattle.g_pass_def.specs.Sweep.{in_order};
+ghost use Rattle.g_pass_def.specs.Answers.{lambdas_of};
+ghost use Rattle.g_pass_def.specs.Sweep.{in_order, sweep};
 ghost use Rattle.r_sweep_def.specs.Swept.{swept_by};
 ghost use Rattle.r_sweep_laws.specs.Fast.{HasSwept, IsWhole};
 ghost use Rattle.g_pass.specs.Fast.{change_of, is_in_arena, is_fast, FastRulesKeep};
 ghost use Rattle.g_pass.specs.Sweep.{rules};
 
 use g_arena::Arena;
-use g_graph::{Lambda, Rule, Step};
+use g_graph::{Lambda, Optimised, Rule, Step};
 use no_memory::NoMemory;
 use std::alloc::Global;
 use std::marker::Brand;
+use std::sync::Arc;
 use std::sync::ledger::{Blank, Ledger};
 use steps::Steps;
 
@@ -25,7 +28,10 @@ use steps::Steps;
 pub const fn is_fast(rule: Rule) -> bool
     ensures { result ≡ is_fast rule }
 {
-    matches!(rule, Rule::Cne | Rule::Dne | Rule::Inv | Rule::Unroll)
+    matches!(
+        rule,
+        Rule::Cne | Rule::Dne | Rule::Inv | Rule::Unroll | Rule::Invert | Rule::Inline
+    )
 }
 
 /// Whether a sweep of the rule goes over an arena.
@@ -35,25 +41,27 @@ pub const fn is_in_arena(rule: Rule) -> bool
     matches!(rule, Rule::Cne | Rule::Dne | Rule::Inv)
 }
 
-/// What a sweep of such a rule makes of a lambda. The steps that applied are appended to the log.
+/// What a sweep of such a rule makes of a lambda. The callees are what functions that the lambda
+/// calls were made into. The steps that applied are appended to the log.
 /// `NoMemory` only where the allocator has none, or where 32 bits do not count what a node or a
 /// region has; the lambda is then given up, and the log is as it was.
 pub fn swept_fast(
     alloc: Global,
     rule: Rule,
     lambda: Lambda,
+    callees: &[Arc<Optimised>],
     log: &mut Vec<Step>,
 ) -> Result<Lambda, NoMemory>
     requires fast { IsTrue (is_fast rule) }
     requires well_formed { IsWellFormed lambda }
     ensures ok { IfOk result (λ made. record { lambda = made; steps = log.new.items } ≡
-        swept_by (change_of rule) (in_order rules rule (region_ids lambda.body))
-        (record { lambda = lambda; steps = log.old.items })) }
+        sweep rules (lambdas_of (map arc_value callees.now))
+        (record { lambda = lambda; steps = log.old.items }) rule) }
     ensures kept { IfOk result (λ made. IsWellFormed made) }
     ensures err { OnErr result (log.new.items ≡ log.old.items) }
 {
     let len = log.len();
-    match swept_whole(alloc, rule, lambda, log) {
+    match swept_whole(alloc, rule, lambda, callees, log) {
         Ok(made) => Ok(made),
         Err(fault) => {
             log.truncate(len);
@@ -67,20 +75,21 @@ fn swept_whole(
     alloc: Global,
     rule: Rule,
     lambda: Lambda,
+    callees: &[Arc<Optimised>],
     log: &mut Vec<Step>,
 ) -> Result<Lambda, NoMemory>
     requires fast { IsTrue (is_fast rule) }
     requires well_formed { IsWellFormed lambda }
     ensures ok { IfOk result (λ made. record { lambda = made; steps = log.new.items } ≡
-        swept_by (change_of rule) (in_order rules rule (region_ids lambda.body))
-        (record { lambda = lambda; steps = log.old.items })) }
+        sweep rules (lambdas_of (map arc_value callees.now))
+        (record { lambda = lambda; steps = log.old.items }) rule) }
     ensures kept { IfOk result (λ made. IsWellFormed made) }
     ensures err { OnErr result ((added : List Step) × (log.new.items ≡ log.old.items ++ added)) }
 {
     if is_in_arena(rule) {
         swept_in::<Brand>(alloc, Blank::new(1), rule, lambda, log)
     } else {
-        walked(alloc, rule, lambda, log)
+        walked(alloc, rule, lambda, callees, log)
     }
 }
 
@@ -120,20 +129,23 @@ fn walked(
     alloc: Global,
     rule: Rule,
     lambda: Lambda,
+    callees: &[Arc<Optimised>],
     log: &mut Vec<Step>,
 ) -> Result<Lambda, NoMemory>
     requires fast { IsTrue (is_fast rule) }
     requires no_arena { is_in_arena rule ≡ false }
     requires well_formed { IsWellFormed lambda }
     ensures ok { IfOk result (λ made. record { lambda = made; steps = log.new.items } ≡
-        swept_by (change_of rule) (in_order rules rule (region_ids lambda.body))
-        (record { lambda = lambda; steps = log.old.items })) }
+        sweep rules (lambdas_of (map arc_value callees.now))
+        (record { lambda = lambda; steps = log.old.items }) rule) }
     ensures kept { IfOk result (λ made. IsWellFormed made) }
     ensures err { OnErr result ((added : List Step) × (log.new.items ≡ log.old.items ++ added)) }
 {
     fast_rules_keep();
     match rule {
         Rule::Unroll => r_unroll_walk::sweep_fast(alloc, lambda, log),
+        Rule::Invert => r_invert_walk::sweep_fast(alloc, lambda, log),
+        Rule::Inline => r_inline_walk::sweep_fast(alloc, lambda, callees, log),
         _ => unreachable!(),
     }
 }
@@ -172,4 +184,5 @@ fn fast_rules_keep()
     r_dne::laws::dne_keeps_meaning();
     r_inv::laws::inv_keeps_meaning();
     r_unroll::laws::url_keeps_meaning();
+    r_invert::laws::ivt_keeps_meaning();
 }

@@ -8,8 +8,7 @@ ghost use Rattle.g_graph.specs.Ids.{region_ids};
 ghost use Rattle.g_graph.specs.WellFormed.{IsWellFormed};
 ghost use Rattle.g_pass_def.specs.Answers.{lambdas_of};
 ghost use Rattle.g_pass_def.specs.Sweep.{in_order, optimise, sweep, tried};
-ghost use Rattle.r_sweep_def.specs.Swept.{swept_by};
-ghost use Rattle.g_pass.specs.Fast.{change_of, is_fast};
+ghost use Rattle.g_pass.specs.Fast.{is_fast};
 ghost use Rattle.g_pass.specs.Sweep.{rules};
 
 use crate::Recipe;
@@ -36,8 +35,8 @@ fn numbers(alloc: Global, rule: Rule, lambda: &Lambda) -> Result<Vec<u32>, NoMem
 /// functions that the lambda calls were made into. The steps that applied are appended to the log.
 /// `NoMemory` only where the allocator has none, or where a node or a region has more than
 /// 4294967295 contents of a kind; the lambda is then the one after the logged steps. A sweep of
-/// `cne`, `dne`, `inv` or `url` takes time n log n in the lambda, any other one linear time for each
-/// of its nodes.
+/// `fold`, `psh` or `pll` takes linear time for each of its nodes, any other one time n log n in the
+/// lambda, in the callees and in what comes.
 pub fn sweep(
     alloc: Global,
     rule: Rule,
@@ -57,7 +56,7 @@ pub fn sweep(
         (take count (in_order rules rule (region_ids lambda.old.body))))) }
 {
     if is_fast(rule) {
-        sweep_copy(alloc, rule, lambda, log)
+        sweep_copy(alloc, rule, lambda, callees, log)
     } else {
         sweep_steps(alloc, rule, lambda, callees, log)
     }
@@ -68,19 +67,20 @@ fn sweep_copy(
     alloc: Global,
     rule: Rule,
     lambda: &mut Lambda,
+    callees: &[Arc<Optimised>],
     log: &mut Vec<Step>,
 ) -> Result<(), NoMemory>
     requires fast { IsTrue (is_fast rule) }
     requires well_formed { IsWellFormed lambda.old }
     ensures ok { OnOk result (record { lambda = lambda.new; steps = log.new.items } ≡
-        swept_by (change_of rule) (in_order rules rule (region_ids lambda.old.body))
-        (record { lambda = lambda.old; steps = log.old.items })) }
+        sweep rules (lambdas_of (map arc_value callees.now))
+        (record { lambda = lambda.old; steps = log.old.items }) rule) }
     ensures kept { IsWellFormed lambda.new }
     ensures err_lambda { OnErr result (lambda.new ≡ lambda.old) }
     ensures err_log { OnErr result (log.new.items ≡ log.old.items) }
 {
     let copy = copy_of(alloc, lambda)?;
-    *lambda = swept_fast(alloc, rule, copy, log)?;
+    *lambda = swept_fast(alloc, rule, copy, callees, log)?;
     Ok(())
 }
 
@@ -135,7 +135,7 @@ fn swept(
     ensures kept { IfOk result (λ made. IsWellFormed made) }
 {
     if is_put_in(rule, &lambda) {
-        return swept_fast(alloc, rule, lambda, log);
+        return swept_fast(alloc, rule, lambda, callees, log);
     }
     let mut lambda = lambda;
     match sweep_steps(alloc, rule, &mut lambda, callees, log) {

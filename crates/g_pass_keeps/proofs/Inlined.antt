@@ -9,7 +9,7 @@ use Rattle.r_edit.specs.Steps.{HasEach, MayStandFor}
 use Rattle.r_inline.specs.Rule as inline_rule
 use Rattle.r_inline.specs.Called.{called_at}
 use Rattle.r_inline.specs.Laws.{IlnIsAStep}
-use Rattle.g_pass.specs.Sweep.{numbered, inlined_at}
+use Rattle.r_inline_laws.specs.Callees.{numbered, inlined_at}
 
 -- ---- a held lambda, by its number
 

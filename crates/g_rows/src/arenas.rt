@@ -1,19 +1,21 @@
 //! Arenas and walks. `check` puts a lambda that is well formed into an arena and takes it out
-//! again, and sweeps `cne`, `dne`, `inv` and `url` over it step by step and at once; it says where the
-//! two differ. `left NODES` sweeps `dne` over an arena of the lambda, and says which of these nodes the
+//! again, and sweeps `cne`, `dne`, `inv`, `iln`, `ivt` and `url` over it step by step and at once,
+//! where the callees are the lambdas before it; it says where the two differ. `left NODES` sweeps `dne` over an arena of the lambda, and says which of these nodes the
 //! arena then has.
 
 ghost use Rattle.std.specs.Prelude.{◌≡◌, ◌<◌};
 ghost use Rattle.g_graph.specs.WellFormed.{IsWellFormed};
 
 use crate::row::Row;
+use crate::rules::callees_of;
 use g_arena::Arena;
-use g_graph::{Lambda, Rule, Step, check, copy_of, equal, ids};
+use g_graph::{Lambda, Optimised, Rule, Step, check, copy_of, equal, ids};
 use g_pass::{step, sweep};
 use no_memory::NoMemory;
 use r_names::rule_name;
 use std::alloc::Global;
 use std::marker::Brand;
+use std::sync::Arc;
 use std::sync::ledger::{Blank, Ledger};
 use steps::Steps;
 
@@ -43,6 +45,7 @@ fn sweep_by_steps(
     alloc: Global,
     rule: Rule,
     lambda: &mut Lambda,
+    callees: &[Arc<Optimised>],
     log: &mut Vec<Step>,
 ) -> Result<(), NoMemory>
     requires { IsWellFormed lambda.old }
@@ -53,7 +56,7 @@ fn sweep_by_steps(
     }
     for node in &numbers {
         let tried = Step { rule, node: *node };
-        if step(alloc, tried, lambda, &[])? {
+        if step(alloc, tried, lambda, callees)? {
             log.push(tried)?;
         }
     }
@@ -61,15 +64,20 @@ fn sweep_by_steps(
 }
 
 // Whether both sweeps of a rule make the same steps and the same lambda.
-fn agree(alloc: Global, rule: Rule, lambda: &Lambda) -> Result<bool, NoMemory>
+fn agree(
+    alloc: Global,
+    rule: Rule,
+    lambda: &Lambda,
+    callees: &[Arc<Optimised>],
+) -> Result<bool, NoMemory>
     requires { IsWellFormed lambda.now }
 {
     let mut one = copy_of(alloc, lambda)?;
     let mut steps = Vec::new(alloc);
-    sweep_by_steps(alloc, rule, &mut one, &mut steps)?;
+    sweep_by_steps(alloc, rule, &mut one, callees, &mut steps)?;
     let mut other = copy_of(alloc, lambda)?;
     let mut log = Vec::new(alloc);
-    sweep(alloc, rule, &mut other, &[], &mut log)?;
+    sweep(alloc, rule, &mut other, callees, &mut log)?;
     Ok(equal(&one, &other) && steps.as_slice() == log.as_slice())
 }
 
@@ -79,8 +87,16 @@ fn compare(row: &mut Row, lambda: &Lambda) -> Result<(), NoMemory>
     if !comes_back(row.alloc, lambda)? {
         row.say("another lambda comes out of an arena")?;
     }
-    for rule in [Rule::Cne, Rule::Dne, Rule::Inv, Rule::Unroll] {
-        if !agree(row.alloc, rule, lambda)? {
+    let callees = callees_of(row.alloc, &row.lambdas)?;
+    for rule in [
+        Rule::Cne,
+        Rule::Dne,
+        Rule::Inv,
+        Rule::Inline,
+        Rule::Invert,
+        Rule::Unroll,
+    ] {
+        if !agree(row.alloc, rule, lambda, &callees)? {
             row.say(rule_name(rule))?;
             row.say("sweeps differ")?;
         }

@@ -187,7 +187,8 @@ fn callee_of(alloc: Global, lambda: &Lambda) -> Result<Option<Arc<Optimised>>, N
     )?))
 }
 
-fn callees_of(alloc: Global, lambdas: &[Named]) -> Result<Vec<Arc<Optimised>>, NoMemory> {
+/// The well-formed ones of these lambdas, as what functions were made into.
+pub fn callees_of(alloc: Global, lambdas: &[Named]) -> Result<Vec<Arc<Optimised>>, NoMemory> {
     let mut all = Vec::new(alloc);
     for named in lambdas {
         if let Some(callee) = callee_of(alloc, &named.lambda)? {

@@ -40,7 +40,7 @@ use Rattle.r_inline.proofs.Replaced.{same-but}
 
 -- ---- what the condition says
 
-none-there : (os : List PlainObject) → (length os == 0) ≡ true → os ≡ []
+pub none-there : (os : List PlainObject) → (length os == 0) ≡ true → os ≡ []
 none-there [] e = refl
 none-there (o ∷ os) e = absurd (grind (arith, nat_tests))
 

@@ -6,3 +6,4 @@ mod Exchanged
 mod Kept
 mod Examples
 mod Copied
+mod Nodes

@@ -1,6 +1,7 @@
 -- Inlining: a copy of the called function's body in the place of a call (Reissmann et al., RVSDG, 2020, of Apply nodes).
 use Rattle.std.specs.Prelude.{ℕ, ◌+◌, ◌-◌, ◌^◌, ◌==◌, nat_le, ◌&&◌, if◌then◌else◌, Bool, false, List, length, Option, None, Some, option_map, option_and_then, is_some}
 use Rattle.limits.specs.Limits.{most_callee_values}
+use Rattle.g_graph.specs.declared.op.Op.{Op}
 use Rattle.g_graph.specs.declared.op.Op.TheVariants.{Apply}
 use Rattle.g_graph.specs.declared.op.Origin.{Origin}
 use Rattle.g_graph.specs.Plain.{RegionTree, NodeTree, node, inputs_in, nodes_in, PlainLambda}
@@ -16,9 +17,12 @@ use Rattle.r_copy.specs.Numbering.{node_count, region_numbered}
 -- ---- the call
 
 -- a call of the callee that has an input for each parameter and both states
+abbrev pub calls : (callee : PlainLambda) → Op → (inputs : List Origin) → Bool
+calls callee (Apply f) inputs = (f == callee.number) && (length inputs == callee.params + 2)
+calls callee op inputs = false
+
 abbrev pub is_call : (callee : PlainLambda) → NodeTree → Bool
-is_call callee (node id (Apply f) inputs rs) = (f == callee.number) && (length inputs == callee.params + 2)
-is_call callee (node id op inputs rs) = false
+is_call callee (node id op inputs rs) = calls callee op inputs
 
 -- the inputs of such a call
 abbrev pub inputs_of_call : (callee : PlainLambda) → NodeTree → Option (List Origin)
@@ -59,3 +63,7 @@ applies l n callee = may_inline (lambda_values l) l.next callee && is_some (regi
 
 abbrev pub iln : ℕ → (callee : PlainLambda) → PlainLambda → PlainLambda
 iln n callee l = record (lambda_changed (iln_here l.next n callee) l) { next = l.next + node_count callee.body }
+
+-- what comes in the place of a node with this op and these inputs, in a lambda of so many values with this next number
+abbrev pub node_inlined : (values next : ℕ) → (callee : PlainLambda) → Op → (inputs : List Origin) → Option RegionTree
+node_inlined values next callee op inputs = if may_inline values next callee && calls callee op inputs then Some (inlined next callee inputs) else None

@@ -40,7 +40,8 @@ fn node_calls(node: &Node, id: u32) -> Option<u32>
     None
 }
 
-fn called_by(op: Op) -> Option<u32>
+/// The number of the function that a node with this op calls.
+pub fn called_by(op: Op) -> Option<u32>
     ensures { result ≡ called_by op }
 {
     match op {

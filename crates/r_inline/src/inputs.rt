@@ -1,7 +1,7 @@
 //! The call that is inlined.
 
 ghost use Rattle.std.specs.Prelude.{◌≡◌, option_copied};
-ghost use Rattle.r_inline.specs.Rule.{is_call, inputs_of_call, call_at};
+ghost use Rattle.r_inline.specs.Rule.{calls, inputs_of_call, call_at};
 
 use g_graph::{Lambda, Node, Op, Origin, Region, node_at};
 
@@ -19,19 +19,21 @@ pub fn call_at<'a>(region: &'a Region, id: u32, callee: &Lambda) -> Option<&'a [
 fn inputs_of_call<'a>(node: &'a Node, callee: &Lambda) -> Option<&'a [Origin]>
     ensures { option_copied result ≡ inputs_of_call callee.now node.now }
 {
-    if is_call(node, callee) {
+    if calls(node.op, node.inputs.as_slice(), callee) {
         Some(node.inputs.as_slice())
     } else {
         None
     }
 }
 
-fn is_call(node: &Node, callee: &Lambda) -> bool
-    ensures { result ≡ is_call callee.now node.now }
+/// Whether a node with this op and these inputs is a call of the callee that has an input for each
+/// parameter and both states.
+pub fn calls(op: Op, inputs: &[Origin], callee: &Lambda) -> bool
+    ensures { result ≡ calls callee.now op inputs.now }
 {
-    match node.op {
+    match op {
         Op::Apply(function) => {
-            function == callee.number && node.inputs.len() as u64 == u64::from(callee.params) + 2
+            function == callee.number && inputs.len() as u64 == u64::from(callee.params) + 2
         }
         _ => false,
     }

@@ -7,8 +7,10 @@
 mod called;
 mod inputs;
 pub mod laws;
+mod node;
 mod room;
 mod rule;
 
-pub use called::called_at;
+pub use called::{called_at, called_by};
+pub use node::inlined_node;
 pub use rule::{applies, apply};

@@ -101,7 +101,7 @@ at-is values next n r x e = by (node_at n (nodes_in r)) refl e
         let c = cond_some (is_loop values next z) z x f in
         (d ∙ ap Some c.1, ap (is_loop values next) (sym c.1) ∙ c.0)
 
-can-make : (objects values next : ℕ) (r : RegionTree) (p : Parts) → IsLoopRegion objects r → parts_of r ≡ Some p → may_invert values next r p ≡ true → CanMake next p
+pub can-make : (objects values next : ℕ) (r : RegionTree) (p : Parts) → IsLoopRegion objects r → parts_of r ≡ Some p → may_invert values next r p ≡ true → CanMake next p
 can-make objects values next r p loop e may =
     let h = (loop-says objects r p loop e).fit in
     let few = nat_lt (region_values r) (2 ^ 60) in
@@ -149,7 +149,7 @@ found-made objects values next n r x fits unique e = by f.holder f.sound f.here
 
 -- ---- the change with what was made of the loop
 
-no-place : (values next : ℕ) (x : NodeTree) → is_loop values next x ≡ false → in_place values next x ≡ None
+pub no-place : (values next : ℕ) (x : NodeTree) → is_loop values next x ≡ false → in_place values next x ≡ None
 no-place values next x e = by (in_place values next x) refl
   where
     by : (o : Option RegionTree) → in_place values next x ≡ o → in_place values next x ≡ None
@@ -158,6 +158,17 @@ no-place values next x e = by (in_place values next x) refl
         let no : false ≡ true =
         sym (ap (λ t. is_some (cond t (Some x) None)) e) ∙ found-changes values next x ∙ ap is_some d in
         absurd cc
+
+pub place-known : (values next : ℕ) (x : NodeTree) (part : RegionTree) → is_loop values next x ≡ true → loop_part next x ≡ Some part →
+    in_place values next x ≡ Some (region_redirected (args_to_inputs (inputs_in x)) part)
+place-known values next x part e is =
+    let loop = is-loop values next x e in
+    let made : Some (inverted next loop.parts) ≡ Some part = sym (ap (option_map (inverted next)) loop.form) ∙ ap (loop_part next) (sym loop.is) ∙ is in
+    ap (in_place values next) loop.is
+    ∙ ap (option_and_then (λ p. cond (may_invert values next loop.body p) (Some (region_redirected (args_to_inputs loop.inputs) (inverted next p))) None)) loop.form
+    ∙ ap (λ t. cond t (Some (region_redirected (args_to_inputs loop.inputs) (inverted next loop.parts))) None) loop.may
+    ∙ ap (λ q. Some (region_redirected (args_to_inputs loop.inputs) q)) (same_Some (inverted next loop.parts) part made)
+    ∙ ap (λ z. Some (region_redirected (args_to_inputs (inputs_in z)) part)) (sym loop.is)
 
 module _ (values next n : ℕ) (y : NodeTree) (part : RegionTree) (is : loop_part next y ≡ Some part) where
   base : (t : RegionTree) → Only y (loop_at values next n t) → Agree (loop_at values next n t) (ivt_here values next n t) (placed_at values next n part t)
@@ -170,14 +181,7 @@ module _ (values next n : ℕ) (y : NodeTree) (part : RegionTree) (is : loop_par
       place x = spliced (region_redirected (args_to_inputs (inputs_in x)) part)
 
       known : (x : NodeTree) → is_loop values next x ≡ true → x ≡ y → in_place values next x ≡ Some (region_redirected (args_to_inputs (inputs_in x)) part)
-      known x e same =
-          let loop = is-loop values next x e in
-          let made : Some (inverted next loop.parts) ≡ Some part = sym (ap (option_map (inverted next)) loop.form) ∙ ap (loop_part next) (sym loop.is ∙ same) ∙ is in
-          ap (in_place values next) loop.is
-          ∙ ap (option_and_then (λ p. cond (may_invert values next loop.body p) (Some (region_redirected (args_to_inputs loop.inputs) (inverted next p))) None)) loop.form
-          ∙ ap (λ t. cond t (Some (region_redirected (args_to_inputs loop.inputs) (inverted next loop.parts))) None) loop.may
-          ∙ ap (λ q. Some (region_redirected (args_to_inputs loop.inputs) q)) (same_Some (inverted next loop.parts) part made)
-          ∙ ap (λ z. Some (region_redirected (args_to_inputs (inputs_in z)) part)) (sym loop.is)
+      known x e same = place-known values next x part e (ap (loop_part next) same ∙ is)
 
       test : (x : NodeTree) (t : Bool) → is_loop values next x ≡ t → Only y (cond t (Some x) None) →
           Agree (cond t (Some x) None) (option_map spliced (in_place values next x)) (option_map place (cond t (Some x) None))

@@ -21,3 +21,4 @@ mod Decides
 mod Remade
 mod Found
 mod Applied
+mod Nodes

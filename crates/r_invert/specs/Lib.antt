@@ -2,3 +2,4 @@ pub mod Compose
 pub mod Rule
 pub mod Laws
 pub mod Edit
+pub mod Sound

@@ -9,8 +9,10 @@ mod find;
 mod form;
 pub mod laws;
 mod made;
+mod node;
 mod part;
 mod room;
 mod rule;
 
+pub use node::inverted_node;
 pub use rule::{applies, apply};

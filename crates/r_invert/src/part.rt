@@ -36,8 +36,10 @@ fn loop_part(alloc: Global, node: &Node, next: u32) -> Result<Region, NoMemory>
     regions_part(alloc, &node.regions, next)
 }
 
+/// What comes in the place of a loop with these regions, with numbers from `next` on; its arguments
+/// are the loop's inputs. It takes time n log n in the regions.
 #[tactic(auto, using(crate::proofs::Remade::one_length))]
-fn regions_part(alloc: Global, regions: &[Region], next: u32) -> Result<Region, NoMemory>
+pub fn regions_part(alloc: Global, regions: &[Region], next: u32) -> Result<Region, NoMemory>
     requires { AreMade next (regions_of regions.now) }
     ensures { IfOk result (λ part. regions_part next (regions_of regions.now) ≡ Some part) }
 {

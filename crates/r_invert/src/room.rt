@@ -26,8 +26,10 @@ pub fn is_loop(node: &Node, values: u64, next: u32) -> bool
     }
 }
 
+/// Whether these regions are those of a loop that may be inverted, in a lambda of so many values
+/// whose next node has the number `next`. It takes no memory, and time linear in the regions.
 #[tactic(auto, using(crate::proofs::Counted::only_one))]
-fn only_may(regions: &[Region], values: u64, next: u32) -> bool
+pub fn only_may(regions: &[Region], values: u64, next: u32) -> bool
     ensures { result ≡ only_may values next (regions_of regions.now) }
 {
     if regions.len() != 1 {

@@ -136,8 +136,8 @@ impl Change for Inverting {
     }
 }
 
-// Takes the part, with these inputs in the place of its arguments.
-fn with_inputs(alloc: Global, part: &mut Region, inputs: &[Origin]) -> Region
+/// Takes the part, with these inputs in the place of its arguments.
+pub fn with_inputs(alloc: Global, part: &mut Region, inputs: &[Origin]) -> Region
     ensures { result ≡ region_redirected (args_to_inputs inputs.now) part.old }
 {
     let none = Region {

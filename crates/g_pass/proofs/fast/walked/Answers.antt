@@ -1,15 +1,33 @@
--- What a walk makes is well formed.
-use Rattle.std.proofs.Common.{refl, sym, ap, subst}
-use Rattle.std.proofs.lemmas.Result.{IfOk-weaker}
-use Rattle.g_graph.specs.declared.steps.Rule.TheVariants.{Unroll}
+-- What a walk makes is what the sweep makes, and well formed.
+use Rattle.std.proofs.Common.{map, refl}
+use Rattle.std.specs.Arc.{arc_value}
+use Rattle.g_graph.specs.declared.steps.Rule.TheVariants.{Unroll, Invert}
 use Rattle.g_graph.specs.Ids.{region_ids}
-use Rattle.g_graph.specs.WellFormed.{IsWellFormed}
-use Rattle.g_pass.proofs.FastSweeps.{logged, sweeps_keep}
+use Rattle.g_pass_def.specs.Answers.{lambdas_of}
+use Rattle.g_pass.proofs.FastSweeps.{of_rule_alone, of_calls, walk_keeps}
 use Rattle.g_pass.proofs.fast.walked.Goals as goal
 
-pub returns-clause-kept : goal.returns-clause-kept
-returns-clause-kept c =
-    let first = logged c.args.lambda c.args.log.now.items in
-    IfOk-weaker c.sweep_fast.result _ IsWellFormed
-    (λ made e. subst IsWellFormed (sym (ap (λ z. z.lambda) e)) (sweeps_keep Unroll refl c.fast_rules_keep.ensures (region_ids c.args.lambda.body) first c.requires.well_formed))
+pub returns-in-Unroll-clause-ok : goal.returns-in-Unroll-clause-ok
+returns-in-Unroll-clause-ok c =
+    of_rule_alone c.sweep_fast.result c.args.rule Unroll (lambdas_of (map arc_value c.args.callees.now)) c.args.lambda c.args.log.now.items c.sweep_fast.new.log.items c.in-Unroll.is
+    (λ e. absurd cc) c.sweep_fast.ensures.ok
+
+pub returns-in-Unroll-clause-kept : goal.returns-in-Unroll-clause-kept
+returns-in-Unroll-clause-kept c =
+    walk_keeps c.sweep_fast.result Unroll refl c.fast_rules_keep.ensures (region_ids c.args.lambda.body) c.args.lambda c.args.log.now.items c.sweep_fast.new.log.items c.requires.well_formed
     c.sweep_fast.ensures.ok
+
+pub returns-in-Invert-clause-ok : goal.returns-in-Invert-clause-ok
+returns-in-Invert-clause-ok c =
+    of_rule_alone c.sweep_fast-in-Invert.result c.args.rule Invert (lambdas_of (map arc_value c.args.callees.now)) c.args.lambda c.args.log.now.items c.sweep_fast-in-Invert.new.log.items
+    c.in-Invert.is (λ e. absurd cc) c.sweep_fast-in-Invert.ensures.ok
+
+pub returns-in-Invert-clause-kept : goal.returns-in-Invert-clause-kept
+returns-in-Invert-clause-kept c =
+    walk_keeps c.sweep_fast-in-Invert.result Invert refl c.fast_rules_keep.ensures (region_ids c.args.lambda.body) c.args.lambda c.args.log.now.items c.sweep_fast-in-Invert.new.log.items
+    c.requires.well_formed c.sweep_fast-in-Invert.ensures.ok
+
+pub returns-in-Inline-clause-ok : goal.returns-in-Inline-clause-ok
+returns-in-Inline-clause-ok c =
+    of_calls c.sweep_fast-in-Inline.result c.args.rule (lambdas_of (map arc_value c.args.callees.now)) c.args.lambda c.args.log.now.items c.sweep_fast-in-Inline.new.log.items c.in-Inline.is
+    c.sweep_fast-in-Inline.ensures.ok

@@ -1,0 +1,9 @@
+//! A sweep of inlining, in one walk.
+//! Promise: what the sweep makes, and its steps, are those of the rule at each node of the lambda,
+//! one after the other. A call takes the first of the callees that has its number.
+#![tactic(auto)]
+
+mod callees;
+mod sweep;
+
+pub use sweep::sweep_fast;

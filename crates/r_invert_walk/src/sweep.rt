@@ -1,0 +1,96 @@
+//! The sweep.
+
+ghost use Rattle.std.specs.Prelude.{◌≡◌, ◌<◌, ◌^◌, IfOk, OnErr};
+ghost use Rattle.g_graph.specs.Ids.{region_ids};
+ghost use Rattle.g_graph.specs.Plain.{nodes_in, nodes_of, results_of};
+ghost use Rattle.g_graph.specs.WellFormed.{IsWellFormed};
+ghost use Rattle.g_graph.specs.declared.steps.Rule.TheVariants.{Invert};
+ghost use Rattle.r_copy.specs.Numbering.{node_count};
+ghost use Rattle.r_invert_laws.specs.Laws.{invert_change};
+ghost use Rattle.r_invert_walk.specs.Asked.{made_at};
+ghost use Rattle.r_sweep_def.specs.Swept.{swept_by};
+ghost use Rattle.r_walk.specs.Walks.{HasGained};
+
+use g_graph::{Lambda, Op, Origin, Region, Rule, Step};
+use no_memory::NoMemory;
+use r_copy::numbers_left;
+use r_invert::inverted_node;
+use r_invert_laws::laws::invert_is_local;
+use r_walk::{New, WalkRule, walk};
+use r_walk_laws::laws::walks_are_sweeps;
+use std::alloc::Global;
+
+/// What a sweep of inversion makes of a lambda: the rule is tried at each node that the lambda has,
+/// in pre-order. The steps that applied are appended to the log. `NoMemory` only where the allocator
+/// has none, or where 64 bits do not count the lambda's values; the lambda is then given up, and the
+/// log may have more steps. It takes time n log n in the lambda and in what comes.
+pub fn sweep_fast(alloc: Global, lambda: Lambda, log: &mut Vec<Step>) -> Result<Lambda, NoMemory>
+    requires well_formed { IsWellFormed lambda }
+    ensures ok { IfOk result (λ made. record { lambda = made; steps = log.new.items } ≡
+        swept_by invert_change (region_ids lambda.body)
+        (record { lambda = lambda; steps = log.old.items })) }
+    ensures err { OnErr result (HasGained log.old.items log.new.items) }
+{
+    walks_are_sweeps();
+    invert_is_local();
+    walk(alloc, lambda, &Inverting, log)
+}
+
+// The rule, as a walk asks it.
+#[derive(Drop)]
+struct Inverting;
+
+impl WalkRule for Inverting {
+    ghost rule = { λ _. Invert };
+
+    ghost asked = { λ _. made_at };
+
+    fn rule(&self) -> Rule {
+        Rule::Invert
+    }
+
+    #[tactic(auto, using(crate::proofs::Asked::sound_so, crate::proofs::Asked::made_so, crate::proofs::Asked::none_so))]
+    fn ask(
+        &self,
+        alloc: Global,
+        values: u64,
+        next: u32,
+        _id: u32,
+        op: Op,
+        inputs: &[Origin],
+        regions: &[Region],
+    ) -> Result<Option<New>, NoMemory> {
+        match inverted_node(alloc, values, next, op, inputs, regions)? {
+            Some(part) => Ok(Some(new_of(part))),
+            None => Ok(None),
+        }
+    }
+}
+
+// The nodes of the region, and its results for the outputs of the node in whose place they come.
+fn new_of(part: Region) -> New
+    requires few { node_count part < 2 ^ 32 }
+    ensures nodes { nodes_of result.nodes.items ≡ nodes_in part }
+    ensures outputs { result.outputs.items ≡ results_of part }
+    ensures taken { result.taken ≡ node_count part }
+{
+    let taken = numbers_of(&part);
+    let Region {
+        args: _,
+        nodes,
+        results,
+    } = part;
+    New {
+        nodes,
+        outputs: results,
+        taken,
+    }
+}
+
+// How many nodes the region has, at any depth.
+fn numbers_of(part: &Region) -> u32
+    requires { node_count part.now < 2 ^ 32 }
+    ensures { result ≡ node_count part.now }
+{
+    u32::MAX - numbers_left(part, u64::from(u32::MAX)) as u32
+}
