@@ -15,3 +15,5 @@ mod Newest
 mod Ports
 mod Dispatch
 mod Characters
+mod AtOnce
+mod Evaluated

@@ -4,3 +4,4 @@ pub mod Steps
 pub mod Calls
 pub mod Ports
 pub mod Begun
+pub mod Known

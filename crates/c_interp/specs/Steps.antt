@@ -7,7 +7,7 @@ use Rattle.val_core.specs.Memory.{Memory, load, store}
 use Rattle.val_core.specs.Answers.{Answer, Cut, Exited, Undefined, then_on, on_defined}
 use Rattle.c_type.specs.Trees.{TypeTree}
 use Rattle.c_typed.specs.declared.operator.IncDec.{IncDec}
-use Rattle.c_typed.specs.Typed.{ExprTree, StmtTree, loop, do_while, VariableTree, ProgramTree}
+use Rattle.c_typed.specs.Typed.{ExprTree, ExprTrees, StmtTree, loop, do_while, VariableTree, ProgramTree}
 use Rattle.c_typed.specs.WellTyped.{type_of}
 use Rattle.c_typed.specs.Objects.{object_number, access_width}
 use Rattle.c_mean.specs.State.{Slot, holds, object, converted, extended}
@@ -15,9 +15,9 @@ use Rattle.c_interp_store.specs.declared.store.Store.{Store}
 use Rattle.c_interp_store.specs.Holding.{Opened, Holds}
 use Rattle.c_interp_value.specs.Operators.{used_value}
 use Rattle.c_mean.specs.Expressions.{branched}
-use Rattle.c_mean.specs.Statements.{Flow, normal}
+use Rattle.c_mean.specs.Statements.{Flow, normal, returned}
 use Rattle.c_interp_def.specs.Configurations.{Configuration, Reached, reaches, with_slots, with_operands, on_operand}
-use Rattle.c_interp_def.specs.ExprTasks.{evaluate, test}
+use Rattle.c_interp_def.specs.ExprTasks.{evaluate, pass_each, use_it, test}
 use Rattle.c_interp_def.specs.StmtTasks.{Task, of_expr, task_run, tasks_run}
 use Rattle.c_interp_def.specs.Laws.{normally, tasks_or_cut}
 use Rattle.c_interp_def.specs.CallLaws.{IsHeardAs}
@@ -71,9 +71,21 @@ tasks_do p n ts x = tasks_run p n ts (normally x)
 abbrev pub tested_run : ProgramTree → (bound : ℕ) → ExprTree → Configuration → Answer Reached
 tested_run p n b = tasks_do p n (of_expr (test (type_of b)) ∷ of_expr (evaluate b) ∷ [])
 
+-- an argument, which has to be a value and becomes an operand
+abbrev pub passed_run : ProgramTree → (bound : ℕ) → ExprTree → Configuration → Answer Reached
+passed_run p n e = tasks_do p n (of_expr use_it ∷ of_expr (evaluate e) ∷ [])
+
+-- and then those after it are passed
+abbrev pub passed_then : ProgramTree → (bound : ℕ) → ExprTree → ExprTrees → Configuration → Answer Reached
+passed_then p n e es x = then_on (passed_run p n e x) (task_run p n (of_expr (pass_each es)))
+
 -- a value becomes an operand, where there is one
 abbrev pub give_run : Option Value → Configuration → Answer Reached
 give_run v x = on_defined v (λ w. reaches normal (with_operands x (w ∷ x.operands)))
+
+-- a return with a value, where there is one
+abbrev pub return_run : Value → Configuration → Answer Reached
+return_run v x = on_defined (used_value v) (λ w. reaches (returned (Some w)) x)
 
 -- one of two tasks, where it is known which
 abbrev pub choose_run : Option Bool → (chosen otherwise : Configuration → Answer Reached) → Configuration → Answer Reached

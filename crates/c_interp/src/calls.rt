@@ -129,7 +129,7 @@ fn take_arguments<'a>(
     ensures slots { IfOk result (λ slots. slots_of slots.items
         ≡ params_in_scope 0 params.now arguments.now) }
 {
-    let mut slots = Vec::new(alloc);
+    let mut slots = Vec::with_capacity(alloc, params.len())?;
     let mut number = 0;
     for i in 0..params.len() {
         let v = argument_at(arguments, i);

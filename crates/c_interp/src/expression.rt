@@ -1,6 +1,7 @@
 //! Tasks of operators, on the newest operands (ISO/IEC 9899:2011, 6.5).
 
 ghost use Rattle.std.specs.Prelude.{◌≡◌, ℕ, true, List, option_map};
+ghost use Rattle.val_core.specs.declared.values.Value.TheVariants.{Num};
 ghost use Rattle.val_core.specs.Memory.{Memory};
 ghost use Rattle.c_typed.specs.Typed.{ProgramTree};
 ghost use Rattle.c_mean.specs.State.{State};
@@ -26,13 +27,13 @@ use c_type::CType;
 use c_typed::{BinaryOp, CompoundOp, IncDec, TExpr, UnaryOp};
 use val_core::Value;
 
-/// A value becomes an operand.
-pub(crate) fn give_it(machine: &mut Machine, v: Value) -> Result<(), Stop>
+/// A number becomes an operand.
+pub(crate) fn give_it(machine: &mut Machine, w: u32) -> Result<(), Stop>
     requires { machine.old.flow ≡ Normal }
     ensures { (p : ProgramTree) (n : ℕ)
-        → IsStep p n result machine.old machine.new (expr_task_run p n (task.give v)) }
+        → IsStep p n result machine.old machine.new (expr_task_run p n (task.give (Num w))) }
 {
-    give_value(machine, v)
+    give_value(machine, Value::Num(w))
 }
 
 /// The newest operand, an address, becomes that of a member of the object there.

@@ -10,8 +10,8 @@ use c_interp_store::Objects;
 #[derive(Clone, Copy)]
 pub(crate) struct Frame {
     pub(crate) function: u32,
+    pub(crate) depth: u32,
     pub(crate) objects: Objects,
-    pub(crate) depth: u64,
     ghost fit: { objects.first < 2 ^ 63 },
 }
 

@@ -6,11 +6,14 @@
 
 mod begin;
 mod calls;
+mod evaluate;
 mod expression;
 mod frame;
+mod known;
 mod machine;
 mod operands;
 mod part;
+mod perform;
 mod push;
 mod run;
 mod statement;

@@ -12,27 +12,7 @@ ghost use Rattle.c_interp.specs.Steps.{IsStep};
 
 use crate::machine::Machine;
 use crate::stop::Stop;
-use c_typed::{Element, Group, TExpr, TPlace, TStmt};
-
-/// An expression.
-pub(crate) fn evaluate<'a>(machine: &mut Machine<'a>, e: &'a TExpr) -> Result<(), Stop>
-    requires { machine.old.flow ≡ Normal }
-    ensures { (p : ProgramTree) (n : ℕ)
-        → IsStep p n result machine.old machine.new (expr_task_run p n (task.evaluate e.now)) }
-{
-    c_interp_expand::evaluate(e, &machine.slots, &mut machine.tasks)?;
-    Ok(())
-}
-
-/// A place, whose address becomes an operand.
-pub(crate) fn locate<'a>(machine: &mut Machine<'a>, q: &'a TPlace) -> Result<(), Stop>
-    requires { machine.old.flow ≡ Normal }
-    ensures { (p : ProgramTree) (n : ℕ)
-        → IsStep p n result machine.old machine.new (expr_task_run p n (task.locate q.now)) }
-{
-    c_interp_expand::locate(q, &mut machine.tasks)?;
-    Ok(())
-}
+use c_typed::{Element, Group, TExpr};
 
 /// Expressions whose values are dropped.
 pub(crate) fn drop_each<'a>(machine: &mut Machine<'a>, es: &'a [TExpr]) -> Result<(), Stop>
@@ -42,27 +22,6 @@ pub(crate) fn drop_each<'a>(machine: &mut Machine<'a>, es: &'a [TExpr]) -> Resul
         (expr_task_run p n (task.drop_each (exprs_of es.now))) }
 {
     c_interp_expand::drop_each(es, &mut machine.tasks)?;
-    Ok(())
-}
-
-/// Arguments, which become operands.
-pub(crate) fn pass_each<'a>(machine: &mut Machine<'a>, es: &'a [TExpr]) -> Result<(), Stop>
-    requires { machine.old.flow ≡ Normal }
-    ensures { (p : ProgramTree) (n : ℕ)
-        → IsStep p n result machine.old machine.new
-        (expr_task_run p n (task.pass_each (exprs_of es.now))) }
-{
-    c_interp_expand::pass_each(es, &mut machine.tasks)?;
-    Ok(())
-}
-
-/// A statement, in which a loop may take at most `bound` turns.
-pub(crate) fn run_stmt<'a>(machine: &mut Machine<'a>, bound: u64, a: &'a TStmt) -> Result<(), Stop>
-    requires { machine.old.flow ≡ Normal }
-    ensures { (p : ProgramTree) → IsStep p bound result machine.old machine.new
-        (stmt_task_run p bound (stmt.run_stmt a.now)) }
-{
-    c_interp_expand::run_stmt(a, bound, &mut machine.tasks)?;
     Ok(())
 }
 

@@ -82,7 +82,7 @@ fn machine_of<'a>(alloc: Global, program: Program<'a>) -> Result<Machine<'a>, No
                 first: 0,
                 count: typed.globals.len() as u64,
             },
-            depth: program.bound + 1,
+            depth: program.bound as u32 + 1,
         },
         slots: Vec::new(alloc),
         callers: Vec::new(alloc),

@@ -17,13 +17,15 @@ use crate::begin::{
     begin_characters, begin_element, begin_object, begin_slot, clear_object, enter,
 };
 use crate::calls::{call, end_call};
+use crate::evaluate::{evaluate, pass_each};
 use crate::expression::{
     and_also, apply_binary, apply_unary, choose_by, compound_at, discard, give_it, load_at,
     load_from, member_at, or_else, step_at, store_at, test, use_it,
 };
 use crate::machine::{Machine, Program};
-use crate::part::{begin_elements, drop_each, evaluate, locate, pass_each, run_groups, run_stmt};
-use crate::statement::{branch, jump, return_it, run_items, select};
+use crate::part::{begin_elements, drop_each, run_groups};
+use crate::perform::locate;
+use crate::statement::{branch, jump, return_it, run_items, run_stmt, select};
 use crate::stop::Stop;
 use crate::streams::{end_program, read_byte, write_byte};
 use crate::turns::{again, end_scope, end_switch, run_turns, turn_if};
@@ -135,11 +137,11 @@ fn do_quiet<'a>(
         (expr_task_run program.entry.typed.now n (expr_task_of task.entry)) }
 {
     match task {
-        ExprTask::Evaluate(e) => evaluate(machine, e),
-        ExprTask::Locate(q) => locate(machine, q),
+        ExprTask::Evaluate(e) => evaluate(machine, program, e),
+        ExprTask::Locate(q) => locate(machine, program, q),
         ExprTask::DropEach(es) => drop_each(machine, es),
-        ExprTask::PassEach(es) => pass_each(machine, es),
-        ExprTask::Give(v) => give_it(machine, v),
+        ExprTask::PassEach(es) => pass_each(machine, program, es),
+        ExprTask::Give(w) => give_it(machine, w),
         ExprTask::LocalAt(k) => local_at(machine, program, k),
         ExprTask::GlobalAt(k) => global_at(machine, program, k),
         ExprTask::MemberAt(offset) => member_at(machine, offset),
@@ -196,7 +198,9 @@ fn do_stmt<'a>(
         StmtTask::OnStmt(stage, a) => do_stage(machine, program, stage, a),
         StmtTask::RunItems(items) => run_items(machine, program, items),
         StmtTask::RunGroups(groups) => run_groups(machine, groups),
-        StmtTask::Jump(flow) => jump(machine, flow),
+        StmtTask::Break => jump(machine, Flow::Broke),
+        StmtTask::Continue => jump(machine, Flow::Continued),
+        StmtTask::ReturnNone => jump(machine, Flow::Returned(None)),
         StmtTask::ReturnIt => return_it(machine),
         StmtTask::Enter(variable) => enter(machine, program, variable),
         StmtTask::BeginSlot => begin_slot(machine),
@@ -224,11 +228,11 @@ fn do_stage<'a>(
         (stmt_task_run program.entry.typed.now program.entry.bound (on_stmt stage a.now)) }
 {
     match stage {
-        Stage::Run => run_stmt(machine, program.bound, a),
+        Stage::Run => run_stmt(machine, program, a),
         Stage::Branch => branch(machine, a),
         Stage::Select => select(machine, a),
-        Stage::RunTurns(turns) => run_turns(machine, turns, a),
-        Stage::TurnIf(turns) => turn_if(machine, turns, a),
+        Stage::RunTurns(turns) => run_turns(machine, program, turns, a),
+        Stage::TurnIf(turns) => turn_if(machine, program, turns, a),
     }
 }
 
@@ -245,7 +249,7 @@ fn handle<'a>(
 {
     match handler {
         Handler::EndSwitch => end_switch(machine),
-        Handler::Again(turns, a) => again(machine, turns, a),
+        Handler::Again(turns, a) => again(machine, program, turns, a),
         Handler::EndScope(count) => end_scope(machine, count),
         Handler::EndCall => end_call(machine, program),
     }

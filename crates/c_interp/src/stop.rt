@@ -4,7 +4,7 @@ ghost use Rattle.std.specs.Prelude.{◌≡◌};
 ghost use Rattle.c_interp.specs.declared.stop.Stop.TheVariants as stop;
 
 use no_memory::NoMemory;
-use std::alloc::AllocFailed;
+use std::alloc::{AllocError, AllocFailed};
 
 /// How the run of a program ends within its bound: with a status; cut, since the bound did not
 /// suffice; or undefined. Or a call of the input or of the output failed.
@@ -32,6 +32,14 @@ impl From<NoMemory> for Stop {
     ghost from_gives = { λ _ e. e ≡ stop.NoMemory };
 
     fn from(_e: NoMemory) -> Stop {
+        Stop::NoMemory
+    }
+}
+
+impl From<AllocError> for Stop {
+    ghost from_gives = { λ _ e. e ≡ stop.NoMemory };
+
+    fn from(_e: AllocError) -> Stop {
         Stop::NoMemory
     }
 }

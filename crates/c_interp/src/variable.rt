@@ -115,7 +115,8 @@ pub(crate) fn load_slot(machine: &mut Machine, slot: u32) -> Result<(), Stop>
     give(machine, value)
 }
 
-fn set_slot(slots: &mut Vec<Slot>, slot: u32, value: Value)
+/// A variable takes a value.
+pub(crate) fn set_slot(slots: &mut Vec<Slot>, slot: u32, value: Value)
     ensures { slots_of slots.new.items ≡ slice_set (slots_of slots.old.items) slot (holds value) }
 {
     if (slot as usize) < slots.len() {

@@ -15,7 +15,8 @@ pub enum ExprTask<'a> {
     DropEach(&'a [TExpr]),
     /// Arguments, which become operands, the last one the newest.
     PassEach(&'a [TExpr]),
-    Give(Value),
+    /// A number becomes an operand.
+    Give(u32),
     /// The address of the object at a slot.
     LocalAt(u32),
     GlobalAt(u32),
@@ -67,7 +68,9 @@ pub enum StmtTask<'a> {
     OnStmt(Stage, &'a TStmt),
     RunItems(&'a [Item]),
     RunGroups(&'a [Group]),
-    Jump(Flow),
+    Break,
+    Continue,
+    ReturnNone,
     ReturnIt,
     Enter(u32),
     BeginSlot,

@@ -1,5 +1,6 @@
 -- The tasks, slots and flows that those of the code stand for, and what a turn adds.
 use Rattle.std.specs.Prelude.{◌≡◌, Bool, true, false, List, ◌++◌, map, Option, None, Some}
+use Rattle.val_core.specs.declared.values.Value.TheVariants.{Num}
 use Rattle.c_typed.specs.Typed.{exprs_of, StmtTree}
 use Rattle.c_typed.specs.StmtViews.{elements_of, items_of, groups_of}
 use Rattle.c_mean.specs.State as state
@@ -15,7 +16,7 @@ use Rattle.c_interp_def.specs.declared.task.ExprTask.TheVariants.{Evaluate, Loca
 use Rattle.c_interp_def.specs.declared.task.Stage.{Stage}
 use Rattle.c_interp_def.specs.declared.task.Stage.TheVariants.{Run, Branch, Select, RunTurns, TurnIf}
 use Rattle.c_interp_def.specs.declared.task.StmtTask.{StmtTask}
-use Rattle.c_interp_def.specs.declared.task.StmtTask.TheVariants.{OnStmt, RunItems, RunGroups, Jump, ReturnIt, Enter, BeginSlot, BeginObject, ClearObject, BeginElements, BeginElement, BeginCharacters}
+use Rattle.c_interp_def.specs.declared.task.StmtTask.TheVariants.{OnStmt, RunItems, RunGroups, Break, Continue, ReturnNone, ReturnIt, Enter, BeginSlot, BeginObject, ClearObject, BeginElements, BeginElement, BeginCharacters}
 use Rattle.c_interp_def.specs.declared.task.Handler.{Handler}
 use Rattle.c_interp_def.specs.declared.task.Handler.TheVariants.{EndSwitch, Again, EndScope, EndCall}
 use Rattle.c_interp_def.specs.declared.task.Task.{Task}
@@ -39,7 +40,7 @@ expr_task_of (Evaluate x) = e.evaluate x.now
 expr_task_of (Locate q) = e.locate q.now
 expr_task_of (DropEach es) = e.drop_each (exprs_of es.now)
 expr_task_of (PassEach es) = e.pass_each (exprs_of es.now)
-expr_task_of (Give v) = e.give v
+expr_task_of (Give w) = e.give (Num w)
 expr_task_of (LocalAt k) = e.local_at k
 expr_task_of (GlobalAt k) = e.global_at k
 expr_task_of (MemberAt o) = e.member_at o
@@ -76,7 +77,9 @@ abbrev pub stmt_task_of : StmtTask → s.StmtTask
 stmt_task_of (OnStmt stage a) = on_stmt stage a.now
 stmt_task_of (RunItems is) = s.run_items (items_of is.now)
 stmt_task_of (RunGroups gs) = s.run_groups (groups_of gs.now)
-stmt_task_of (Jump f) = s.jump (flow_of f)
+stmt_task_of Break = s.jump stmt.broke
+stmt_task_of Continue = s.jump stmt.continued
+stmt_task_of ReturnNone = s.jump (stmt.returned None)
 stmt_task_of ReturnIt = s.return_it
 stmt_task_of (Enter k) = s.enter k
 stmt_task_of BeginSlot = s.begin_slot

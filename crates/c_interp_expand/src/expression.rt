@@ -14,7 +14,6 @@ use c_interp_def::{ExprTask, Slot, Task};
 use c_type::CType;
 use c_typed::{CompoundOp, ExprForm, IncDec, PlaceForm, TExpr, TPlace, UnaryOp};
 use no_memory::NoMemory;
-use val_core::Value;
 
 // The slot of a value variable, where the place is one.
 fn value_slot(p: &TPlace, slots: &[Slot]) -> Option<u32>
@@ -42,7 +41,7 @@ pub fn evaluate<'a>(e: &'a TExpr, slots: &[Slot], tasks: &mut Vec<Task<'a>>) -> 
 {
     let t: &CType = &e.ty;
     match &e.form {
-        ExprForm::Constant(w) => push(tasks, ExprTask::Give(Value::Num(*w))),
+        ExprForm::Constant(w) => push(tasks, ExprTask::Give(*w)),
         ExprForm::Read(p) => read(t, p, value_slot(p, slots), tasks),
         ExprForm::Address(p) => push(tasks, ExprTask::Locate(p)),
         ExprForm::Unary(op, a) => unary(*op, t, a, tasks),

@@ -10,7 +10,7 @@ ghost use Rattle.c_interp_expand.specs.TaskViews.{tasks_of, IsTurn};
 ghost use Rattle.c_interp_def.specs.StmtTasks.{optional_tasks, stmt_tasks, items_tasks, initial_tasks, object_tasks, value_tasks, groups_tasks, elements_tasks, again_tasks, turns_tasks, turn_tasks};
 
 use crate::push::{add, add2, add3};
-use c_interp_def::{ExprTask, Flow, Handler, Stage, StmtTask, Task};
+use c_interp_def::{ExprTask, Handler, Stage, StmtTask, Task};
 use c_typed::{Declaration, Element, Group, Initial, Item, StmtForm, TExpr, TStmt, Variable};
 use no_memory::NoMemory;
 
@@ -33,14 +33,14 @@ pub fn run_stmt<'a>(a: &'a TStmt, bound: u64, tasks: &mut Vec<Task<'a>>) -> Resu
             Task::Handler(Handler::EndSwitch),
             Task::OfStmt(StmtTask::OnStmt(Stage::RunTurns(bound), a)),
         ),
-        StmtForm::Break => add(tasks, Task::OfStmt(StmtTask::Jump(Flow::Broke))),
-        StmtForm::Continue => add(tasks, Task::OfStmt(StmtTask::Jump(Flow::Continued))),
+        StmtForm::Break => add(tasks, Task::OfStmt(StmtTask::Break)),
+        StmtForm::Continue => add(tasks, Task::OfStmt(StmtTask::Continue)),
         StmtForm::ReturnValue(e) => add2(
             tasks,
             Task::OfStmt(StmtTask::ReturnIt),
             Task::OfExpr(ExprTask::Evaluate(e)),
         ),
-        StmtForm::ReturnNone => add(tasks, Task::OfStmt(StmtTask::Jump(Flow::Returned(None)))),
+        StmtForm::ReturnNone => add(tasks, Task::OfStmt(StmtTask::ReturnNone)),
         StmtForm::Switch(e, _) => add3(
             tasks,
             Task::Handler(Handler::EndSwitch),

@@ -2,16 +2,16 @@ use Rattle.c_interp.proofs.Dispatch.{expr_as}
 use Rattle.c_interp.proofs.step.do_quiet.Goals as goal
 
 pub returns-in-Evaluate : goal.returns-in-Evaluate
-returns-in-Evaluate c = λ n. expr_as c.args.program.typed.now n c.evaluate.result c.args.machine.now c.evaluate.new.machine c.args.task _ c.in-Evaluate.is (c.evaluate.ensures c.args.program.typed.now n)
+returns-in-Evaluate c = λ n. expr_as c.args.program.typed.now n c.evaluate.result c.args.machine.now c.evaluate.new.machine c.args.task _ c.in-Evaluate.is (c.evaluate.ensures n)
 
 pub returns-in-Locate : goal.returns-in-Locate
-returns-in-Locate c = λ n. expr_as c.args.program.typed.now n c.locate.result c.args.machine.now c.locate.new.machine c.args.task _ c.in-Locate.is (c.locate.ensures c.args.program.typed.now n)
+returns-in-Locate c = λ n. expr_as c.args.program.typed.now n c.locate.result c.args.machine.now c.locate.new.machine c.args.task _ c.in-Locate.is (c.locate.ensures n)
 
 pub returns-in-DropEach : goal.returns-in-DropEach
 returns-in-DropEach c = λ n. expr_as c.args.program.typed.now n c.drop_each.result c.args.machine.now c.drop_each.new.machine c.args.task _ c.in-DropEach.is (c.drop_each.ensures c.args.program.typed.now n)
 
 pub returns-in-PassEach : goal.returns-in-PassEach
-returns-in-PassEach c = λ n. expr_as c.args.program.typed.now n c.pass_each.result c.args.machine.now c.pass_each.new.machine c.args.task _ c.in-PassEach.is (c.pass_each.ensures c.args.program.typed.now n)
+returns-in-PassEach c = λ n. expr_as c.args.program.typed.now n c.pass_each.result c.args.machine.now c.pass_each.new.machine c.args.task _ c.in-PassEach.is (c.pass_each.ensures n)
 
 pub returns-in-Give : goal.returns-in-Give
 returns-in-Give c = λ n. expr_as c.args.program.typed.now n c.give_it.result c.args.machine.now c.give_it.new.machine c.args.task _ c.in-Give.is (c.give_it.ensures c.args.program.typed.now n)

@@ -5,13 +5,19 @@ pub returns-in-OnStmt : goal.returns-in-OnStmt
 returns-in-OnStmt c = stmt_as c.args.program.typed.now c.args.program.bound c.do_stage.result c.args.machine.now c.do_stage.new.machine c.args.task _ c.in-OnStmt.is c.do_stage.ensures
 
 pub returns-in-RunItems : goal.returns-in-RunItems
-returns-in-RunItems c = stmt_as c.args.program.typed.now c.args.program.bound c.run_items.result c.args.machine.now c.run_items.new.machine c.args.task _ c.in-RunItems.is (c.run_items.ensures c.args.program.bound)
+returns-in-RunItems c = stmt_as c.args.program.typed.now c.args.program.bound c.run_items.result c.args.machine.now c.run_items.new.machine c.args.task _ c.in-RunItems.is c.run_items.ensures
 
 pub returns-in-RunGroups : goal.returns-in-RunGroups
 returns-in-RunGroups c = stmt_as c.args.program.typed.now c.args.program.bound c.run_groups.result c.args.machine.now c.run_groups.new.machine c.args.task _ c.in-RunGroups.is (c.run_groups.ensures c.args.program.typed.now c.args.program.bound)
 
-pub returns-in-Jump : goal.returns-in-Jump
-returns-in-Jump c = stmt_as c.args.program.typed.now c.args.program.bound c.jump.result c.args.machine.now c.jump.new.machine c.args.task _ c.in-Jump.is (c.jump.ensures c.args.program.typed.now c.args.program.bound)
+pub returns-in-Break : goal.returns-in-Break
+returns-in-Break c = stmt_as c.args.program.typed.now c.args.program.bound c.jump.result c.args.machine.now c.jump.new.machine c.args.task _ c.in-Break.is (c.jump.ensures c.args.program.typed.now c.args.program.bound)
+
+pub returns-in-Continue : goal.returns-in-Continue
+returns-in-Continue c = stmt_as c.args.program.typed.now c.args.program.bound c.jump-in-Continue.result c.args.machine.now c.jump-in-Continue.new.machine c.args.task _ c.in-Continue.is (c.jump-in-Continue.ensures c.args.program.typed.now c.args.program.bound)
+
+pub returns-in-ReturnNone : goal.returns-in-ReturnNone
+returns-in-ReturnNone c = stmt_as c.args.program.typed.now c.args.program.bound c.jump-in-ReturnNone.result c.args.machine.now c.jump-in-ReturnNone.new.machine c.args.task _ c.in-ReturnNone.is (c.jump-in-ReturnNone.ensures c.args.program.typed.now c.args.program.bound)
 
 pub returns-in-ReturnIt : goal.returns-in-ReturnIt
 returns-in-ReturnIt c = stmt_as c.args.program.typed.now c.args.program.bound c.return_it.result c.args.machine.now c.return_it.new.machine c.args.task _ c.in-ReturnIt.is (c.return_it.ensures c.args.program.typed.now c.args.program.bound)

@@ -5,7 +5,7 @@ pub returns-in-EndSwitch : goal.returns-in-EndSwitch
 returns-in-EndSwitch c = handler_as c.args.program.typed.now c.args.program.bound c.end_switch.result c.args.machine.now c.end_switch.new.machine c.args.handler _ c.in-EndSwitch.is (c.end_switch.ensures c.args.program.typed.now c.args.program.bound)
 
 pub returns-in-Again : goal.returns-in-Again
-returns-in-Again c = handler_as c.args.program.typed.now c.args.program.bound c.again.result c.args.machine.now c.again.new.machine c.args.handler _ c.in-Again.is (c.again.ensures c.args.program.typed.now c.args.program.bound)
+returns-in-Again c = handler_as c.args.program.typed.now c.args.program.bound c.again.result c.args.machine.now c.again.new.machine c.args.handler _ c.in-Again.is c.again.ensures
 
 pub returns-in-EndScope : goal.returns-in-EndScope
 returns-in-EndScope c = handler_as c.args.program.typed.now c.args.program.bound c.end_scope.result c.args.machine.now c.end_scope.new.machine c.args.handler _ c.in-EndScope.is (c.end_scope.ensures c.args.program.typed.now c.args.program.bound)

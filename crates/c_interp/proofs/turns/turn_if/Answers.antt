@@ -11,7 +11,9 @@ use Rattle.c_interp.proofs.Statements.{asked-while}
 use Rattle.c_interp.proofs.turns.turn_if.Goals as goal
 
 pub returns-in-Some : goal.returns-in-Some
-returns-in-Some c = λ p n.
+returns-in-Some c =
+    let p = c.args.program.typed.now in
+    let n = c.args.program.bound in
     let e = c.in-Some.e in
     let step = optional_of c.in-Loop.step in
     let b = c.deref-in-Some.result.now in
@@ -25,10 +27,12 @@ returns-in-Some c = λ p n.
     ∙ asked-while p n k e step b x
     ∙ ap (λ s. asked_do (type_of e) (turns_do p n (turn_tasks k s b)) x) (sym here)
     ∙ ap (λ t. asked_do t (turns_do p n (turn_tasks k c.args.a.now b)) x) (sym (c.deref.ensures ∙ ap type_of c.e.view_is)))
-    (c.turn_while.ensures p n)
+    c.turn_while.ensures
 
 pub returns-in-DoWhile : goal.returns-in-DoWhile
-returns-in-DoWhile c = λ p n.
+returns-in-DoWhile c =
+    let p = c.args.program.typed.now in
+    let n = c.args.program.bound in
     let e = c.in-DoWhile.condition in
     let b = c.in-DoWhile.body.value in
     let here : c.args.a.now ≡ tree.do_while b e = sym c.a.view_is ∙ ap stmt_of c.in-DoWhile.is in

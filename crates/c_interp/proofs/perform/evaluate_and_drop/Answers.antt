@@ -1,0 +1,11 @@
+use Rattle.c_interp_def.specs.declared.task.ExprTask.TheVariants.{Discard}
+use Rattle.c_interp_def.specs.declared.task.Task.TheVariants.{OfExpr}
+use Rattle.c_interp_def.specs.ExprTasks as task
+use Rattle.c_interp_def.specs.ExprTasks.{expr_task_run}
+use Rattle.c_interp.proofs.AtOnce.{put_then}
+use Rattle.c_interp.proofs.perform.evaluate_and_drop.Goals as goal
+
+pub returns : goal.returns
+returns c = λ n.
+    let p = c.args.program.typed.now in
+    put_then p n c.evaluate.result c.args.machine.now c.evaluate.new.machine c.push.new.self (OfExpr Discard) (expr_task_run p n (task.evaluate c.args.e.now)) c.in_ok-push.ensures.items (c.evaluate.ensures n)

@@ -1,0 +1,76 @@
+//! What is known of an expression at once, where the machine stands.
+
+ghost use Rattle.std.specs.Prelude.{ℕ};
+ghost use Rattle.c_interp_layout.specs.Laid.{IsLaid};
+ghost use Rattle.c_interp_answer.specs.Answered.{IsValue, IsTruth, IsAddress, IsWritten};
+ghost use Rattle.c_interp.specs.Known.{Shows, Knows};
+
+use crate::machine::{Machine, Program};
+use c_interp_answer::{Assignment, Scope};
+use c_typed::{TExpr, TPlace};
+use val_core::Value;
+
+// How deep an expression is looked into.
+const DEPTH: u32 = 8;
+
+// What an expression is read from, where the machine stands.
+fn scope_of<'b, 'a>(machine: &'b Machine<'a>, program: Program<'b>) -> Scope<'b>
+    requires laid { IsLaid program.typed.now program.layouts.now }
+    ensures { (n : ℕ) → Shows program.entry.typed.now n machine.now result }
+{
+    Scope {
+        store: &machine.store,
+        slots: machine.slots.as_slice(),
+        layouts: program.layouts,
+        function: machine.frame.function,
+        first: machine.frame.objects.first,
+    }
+}
+
+/// The value that an expression gives.
+pub(crate) fn known<'a>(machine: &Machine<'a>, program: Program<'a>, e: &TExpr) -> Option<Value>
+    requires laid { IsLaid program.typed.now program.layouts.now }
+    ensures { (n : ℕ) → Knows program.entry.typed.now n machine.now
+        (λ c s. IsValue c e.now s result) }
+{
+    c_interp_answer::answer(&scope_of(machine, program), e, DEPTH)
+}
+
+/// Whether an expression is true.
+pub(crate) fn known_truth<'a>(
+    machine: &Machine<'a>,
+    program: Program<'a>,
+    e: &TExpr,
+) -> Option<bool>
+    requires laid { IsLaid program.typed.now program.layouts.now }
+    ensures { (n : ℕ) → Knows program.entry.typed.now n machine.now
+        (λ c s. IsTruth c e.now s result) }
+{
+    c_interp_answer::asked(&scope_of(machine, program), e, DEPTH)
+}
+
+/// The address of a place.
+pub(crate) fn known_address<'a>(
+    machine: &Machine<'a>,
+    program: Program<'a>,
+    p: &TPlace,
+) -> Option<Value>
+    requires laid { IsLaid program.typed.now program.layouts.now }
+    ensures { (n : ℕ) → Knows program.entry.typed.now n machine.now
+        (λ c s. IsAddress c p.now s result) }
+{
+    c_interp_answer::address(&scope_of(machine, program), p, DEPTH)
+}
+
+/// The number that an expression assigns to a variable.
+pub(crate) fn known_written<'a>(
+    machine: &Machine<'a>,
+    program: Program<'a>,
+    e: &TExpr,
+) -> Option<Assignment>
+    requires laid { IsLaid program.typed.now program.layouts.now }
+    ensures { (n : ℕ) → Knows program.entry.typed.now n machine.now
+        (λ c s. IsWritten c e.now s result) }
+{
+    c_interp_answer::written(&scope_of(machine, program), e, DEPTH)
+}

@@ -1,0 +1,39 @@
+-- How deep is still looked, and the order in which the calls stand at one depth.
+use Rattle.std.proofs.Common.{◌+◌, ◌*◌}
+use Rattle.c_interp_answer.proofs.expression.+answer.Given as goal
+
+abbrev pub decreases-address : goal.decreases-address
+decreases-address l = 8 * l.depth
+
+abbrev pub decreases-value : goal.decreases-value
+decreases-value l = 8 * l.depth + 1
+
+abbrev pub decreases-other_word : goal.decreases-other_word
+decreases-other_word l = 8 * l.depth + 1
+
+abbrev pub decreases-binary_word : goal.decreases-binary_word
+decreases-binary_word l = 8 * l.depth + 1
+
+abbrev pub decreases-word : goal.decreases-word
+decreases-word l = 8 * l.depth + 2
+
+abbrev pub decreases-answer : goal.decreases-answer
+decreases-answer l = 8 * l.depth + 3
+
+abbrev pub decreases-asked : goal.decreases-asked
+decreases-asked l = 8 * l.depth + 3
+
+abbrev pub decreases-truth_word : goal.decreases-truth_word
+decreases-truth_word l = 8 * l.depth + 4
+
+abbrev pub decreases-pointers_word : goal.decreases-pointers_word
+decreases-pointers_word l = 8 * l.depth + 4
+
+abbrev pub decreases-operand_word : goal.decreases-operand_word
+decreases-operand_word l = 8 * l.depth + 4
+
+abbrev pub decreases-operator_word : goal.decreases-operator_word
+decreases-operator_word l = 8 * l.depth + 5
+
+abbrev pub decreases-operator_value : goal.decreases-operator_value
+decreases-operator_value l = 8 * l.depth + 4
