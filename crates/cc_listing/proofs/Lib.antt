@@ -1,0 +1,8 @@
+mod Cut
+mod WordLemmas
+mod LineLemmas
+mod FunctionLemmas
+mod ImageLemmas
+mod Listed
+mod TextLemmas
+mod Pushed

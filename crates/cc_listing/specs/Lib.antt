@@ -1,0 +1,5 @@
+pub mod Words
+pub mod Symbols
+pub mod Globals
+pub mod Lines
+pub mod Laws
