@@ -16,9 +16,9 @@ if [ "${1:-}" = --try ]; then
     # Nothing is built here: where there is no program of these sources, the session's edit is not tried.
     mkdir "$folder/none" && printf '#!/bin/sh\nexit 1\n' >"$folder/none/rt" && chmod +x "$folder/none/rt" || exit 1
     export PATH="$folder/none:$PATH" TMPDIR="$folder"
-    has_program=$(sh tools/program 2>/dev/null)
+    has_program=$(sh tools/program.sh rvcc 2>/dev/null)
     copy=$folder/copy
-    mkdir "$copy" && find .ci README.md HANDLES bin crates.txt crates docs examples rows rvcc tools -path '*/out' -prune -o -type f -print \
+    mkdir "$copy" && find .ci README.md HANDLES bin crates.txt crates docs examples rows rvcc rvcc-view tools -path '*/out' -prune -o -type f -print \
         | tr '\n' '\0' | xargs -0 cp -p --parents -t "$copy" || fail 'there is no room for a copy'
     # With the times of its sources, so that it is taken in the copy too.
     built=crates/cc_main/out/cc_main

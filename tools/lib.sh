@@ -27,7 +27,7 @@ built() {
 # Sets `program` to the compiler that ./rvcc takes, so that each run takes the program itself. With no input there is no program
 # to compile.
 compiler() {
-    program=$(sh tools/program) || exit 1
+    program=$(sh tools/program.sh rvcc) || exit 1
     "$program" </dev/null 2>"$folder/report"
     [ "$(tail -n 1 "$folder/report")" = 'refused NoMain 41 line 1' ] || fail "the compiler does not run: $(cat "$folder/report")"
 }

@@ -1,0 +1,3 @@
+mod FrameLemmas
+mod RefusalPlace
+mod StackLines

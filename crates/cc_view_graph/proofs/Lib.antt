@@ -1,0 +1,2 @@
+mod OneShown
+mod Replays

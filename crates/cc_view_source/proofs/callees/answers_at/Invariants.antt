@@ -1,0 +1,10 @@
+-- The loop over the numbers: the callees so far are those of the numbers before.
+use Rattle.std.proofs.Common.{◌≡◌, map, take}
+use Rattle.std.specs.Arc.{arc_value}
+use Rattle.g_pass_def.specs.Answers.{lambdas_of}
+use Rattle.g_pass_def.specs.Replayed.{lambdas_at}
+use Rattle.cc_view_source.proofs.callees.answers_at.Given as goal
+
+abbrev pub invariant-loop-number : goal.invariant-loop-number
+invariant-loop-number l =
+    lambdas_of (map arc_value l.callees.items) ≡ lambdas_at (lambdas_of (map arc_value l.made)) (take l.number-index l.numbers)
