@@ -1,6 +1,6 @@
 #!/bin/sh
 # Refuses each allocation of commands in turn: builds of four sources by 1 and 2 workers under each report, runs of their images and of
-# the sources themselves, checks, a source on the input, a generated program, and a session by 1 and 2 workers. A command ends as it does
+# the sources themselves, checks, a source on the input, a generated program, a session by 1 and 2 workers, and what rvcc-view shows. A command ends as it does
 # with all its memory, or reports `memory` and has written nothing and made no file (the run of a source: a front of what it writes; the
 # whole file where the text of a report found no memory; a session: a front of its answers, and one of its images or none). `read fault`
 # and `write fault` come where the name of the file that is opened or created found no memory, and nowhere else: the names are of lengths
@@ -181,4 +181,8 @@ printf 'build\nreplace c 33\nint c(int x) { return d(x) * 4; }\nbuild\nend\n' >"
 for workers in 1 2; do
     refuse "$opening$creation$creation" "$folder/script" session "$(named four.c $read_length)" "$out" --workers $workers
 done
+program=$(sh tools/program.sh rvcc-view) || exit 1
+in=$(named four.c $read_length) || exit 1
+for form in dot rows; do refuse "$opening" "$folder/nothing" graph "$in" --form $form; done
+for shown in steps listing explain; do refuse "$opening" "$folder/nothing" $shown "$in"; done
 echo "$script: $refused commands without an allocation end as they should, $reads of them by a file that was not opened, $writes not created"

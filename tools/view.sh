@@ -218,6 +218,16 @@ for source in (b"\0\x7f\xff", long, b"int main(void) { return 0; }\n@\n"):
     status, said, report = call(view, source, "explain")
     same("a refusal of %d bytes" % len(source), (4, True), (status, report.startswith("refused ") and said.count(b"\n") >= 4))
 
+# ---- an output that cannot be written
+
+if os.path.exists("/dev/full"):
+    with open(os.path.join(folder, "in.c"), "wb") as file:
+        file.write(plain)
+    for words in (("graph",), ("graph", "--form", "rows"), ("steps",), ("listing",), ("explain",)):
+        with open("/dev/full", "wb") as full:
+            ended = subprocess.run([view, words[0], "in.c", *words[1:]], stdout=full, stderr=subprocess.PIPE, cwd=folder)
+        same(" ".join(words) + " on a full device", (3, True), (ended.returncode, ended.stderr in (b"write fault\n", b"")))
+
 print("tools/view.sh: %d compared, %d differ" % (count, bad))
 sys.exit(bad > 0)
 END
