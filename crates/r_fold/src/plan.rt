@@ -51,8 +51,8 @@ fn un_plan(nodes: &[Node], op: Op1, inputs: &[Origin]) -> Option<Plan>
     }
 }
 
-// The plan for an operation on these operands, of which these words are known.
-fn operands_plan(
+/// The plan for an operation on these operands, of which these words are known.
+pub fn operands_plan(
     op: Op2,
     a: Origin,
     b: Origin,

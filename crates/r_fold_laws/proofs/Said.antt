@@ -13,19 +13,19 @@ use Rattle.g_graph.specs.declared.op.Origin.TheVariants.{Arg, Out}
 use Rattle.g_graph.specs.Change.{region_changed, has_node}
 use Rattle.g_graph.specs.Ids.{region_ids, node_ids, nodes_ids, regions_ids}
 use Rattle.g_graph.specs.Nodes.{node_at, node_set, constant, nodes_use, is_used}
-use Rattle.g_graph.specs.Plain.{RegionTree, region, NodeTree, node, NodeTrees, no_nodes, node_then, RegionTrees, no_regions, region_then, id_of, inputs_in, regions_in, PlainLambda}
+use Rattle.g_graph.specs.Plain.{RegionTree, region, NodeTree, node, NodeTrees, no_nodes, node_then, RegionTrees, no_regions, region_then, id_of, op_of, inputs_in, regions_in, PlainLambda}
 use Rattle.g_graph.specs.Program.{lambda_values}
 use Rattle.g_graph.specs.Replace.{node_redirected, nodes_redirected, region_redirected, origin_replaced}
 use Rattle.g_graph.specs.Scope.{same_origin}
 use Rattle.g_graph.specs.Splice.{args_to_inputs, outputs_to_results, joined_nodes, region_spliced}
-use Rattle.g_graph.specs.WellFormed.{some_of, has_its_regions, IsWellFormed}
+use Rattle.g_graph.specs.WellFormed.{IsWellFormed}
 use Rattle.g_mean.specs.Copies.{IsAmong, AreRead, NodesRead, known_after, is_argument}
 use Rattle.g_mean.specs.Edits.{IsPartOf}
 use Rattle.g_mean.proofs.lemmas.Copies.{among-left, among-right, among-split}
 use Rattle.g_mean.proofs.lemmas.Holds.{id-among}
 use Rattle.g_mean.proofs.lemmas.Inside.{inputs-read}
 use Rattle.g_mean.proofs.lemmas.Splices.{joined-read}
-use Rattle.r_fold.specs.Rule.{Folded, word, input, replacement, left_neutral, right_neutral, is_word, bin_folded, chosen_region, gamma_folded, theta_folded, folding, folded, fold_here, applies, fold}
+use Rattle.r_fold.specs.Rule.{Folded, word, input, replacement, left_neutral, right_neutral, is_word, bin_folded, chosen_region, chosen_place, gamma_folded, theta_folded, folding, folded, fold_here, applies, fold}
 use Rattle.r_walk_def.specs.Context.{ChangesOnlyAt, IsContext}
 use Rattle.r_walk_def.specs.Laws.{IsOutputAmong, AreOutputsAmong, region_at, region_with, Becomes, Opens, IsSaid}
 use Rattle.r_walk_def.specs.Walk.{Part, stays, becomes, opened, is_in, inputs_of_nodes, results_from}
@@ -33,7 +33,6 @@ use Rattle.r_walk_laws.proofs.lemmas.Local.{not_found, found_here, set_at, repla
 use Rattle.r_walk_laws.proofs.lemmas.Moves.{nodes_redirected-joined, inputs-joined}
 use Rattle.r_walk_laws.proofs.lemmas.Uses.{in_append, not_read, nodes_not_read}
 use Rattle.r_fold_laws.specs.Asked as asked
-use Rattle.r_fold_laws.specs.Asked.{chosen_place, fold_asked}
 use Rattle.r_fold_laws.specs.Laws.{fold_change, FoldIsLocal}
 use Rattle.r_fold_laws.proofs.Read.{among_known, folding_known, read_outputs, replaced_is, all_unmoved, nodes_unmoved, nodes_use_is, regions_of_it}
 
@@ -42,11 +41,6 @@ only_there n (region args nodes results) e = ap (λ o. option_and_then (λ f. fo
 
 not-there : (n : ℕ) (l : PlainLambda) → (IsAmong n (region_ids l.body) → ⊥) → applies l n ≡ false
 not-there n l h = ap is_some (absent l n (fold_here n) (only_there n) h)
-
--- the regions of an operation on words are none
-none_in : (op : Op2) (id : ℕ) (ins : List Origin) (rs : RegionTrees) → has_its_regions (node id (Bin op) ins rs) ≡ true → (n : ℕ) → IsAmong n (regions_ids rs) → ⊥
-none_in op id ins no_regions e n h = h
-none_in op id ins (region_then r rs) e n h = absurd cc
 
 -- ---- what comes of an operation is a word, or one of its operands
 
@@ -193,8 +187,8 @@ module _ (l : PlainLambda) (context : RegionTree → RegionTree) (args : List Ki
           ∙ ap (λ t. t || is_in (inputs_of_nodes after) (Out (id_of x) 0)) (not_read (is_argument (length args)) (known_after [] before) (id_of x) 0 refl not_known ins r)
 
   input_comes : (a : Origin) → folding before x ≡ Some (input a) → IsOutputAmong (nodes_ids before) a → ((n : ℕ) → IsAmong n (regions_ids (regions_in x)) → ⊥) →
-      Says (asked.part_of before uses x (Some (input a)))
-  input_comes a e there none = by (is_in uses (Out (id_of x) 0)) refl
+      node (id_of x) (op_of x) (inputs_in x) no_regions ≡ x → Says (asked.part_of before uses x (Some (input a)))
+  input_comes a e there none alone = by (is_in uses (Out (id_of x) 0)) refl
     where
       so : fold_here (id_of x) here ≡ cond (is_in uses (Out (id_of x) 0)) (Some (region_redirected (origin_replaced (Out (id_of x) 0) a) here)) None
       so = here-is ∙ ap (option_and_then (λ f. folded (id_of x) here f)) e ∙ ap (λ t. cond t (Some (region_redirected (origin_replaced (Out (id_of x) 0) a) here)) None) used-here
@@ -209,11 +203,12 @@ module _ (l : PlainLambda) (context : RegionTree → RegionTree) (args : List Ki
       numbers : (n : ℕ) → IsAmong n (node_ids x ++ []) → IsAmong n (node_ids x)
       numbers n h = subst (IsAmong n) (append-nil (node_ids x)) h
 
-      by : (t : Bool) → is_in uses (Out (id_of x) 0) ≡ t → Says (cond t (becomes (node_then x no_nodes) (a ∷ []) 0) stays)
+      by : (t : Bool) → is_in uses (Out (id_of x) 0) ≡ t → Says (cond t (becomes (node_then (node (id_of x) (op_of x) (inputs_in x) no_regions) no_nodes) (a ∷ []) 0) stays)
       by true d =
-          comes (node_then x no_nodes) (a ∷ [])
+          subst (λ y. Says (becomes (node_then y no_nodes) (a ∷ []) 0)) (sym alone)
+          (comes (node_then x no_nodes) (a ∷ [])
           (so ∙ ap (λ t. cond t (Some (region_redirected (origin_replaced (Out (id_of x) 0) a) here)) None) d ∙ ap Some (replaced-here a))
-          (known a there, tt) numbers (λ n h k. none n h)
+          (known a there, tt) numbers (λ n h k. none n h))
       by false d = stays_so (so ∙ ap (λ t. cond t (Some (region_redirected (origin_replaced (Out (id_of x) 0) a) here)) None) d)
 
   -- a region of the node comes
@@ -256,34 +251,41 @@ module _ (l : PlainLambda) (context : RegionTree → RegionTree) (args : List Ki
   none_folds x at same e =
       subst (λ f. IsSaid fold_change l context args before x after results (asked.part_of before uses x f)) (sym e) (not_folded l context args before x after results uses around well at same e)
 
-  said_bin : (id : ℕ) (op : Op2) (a b : Origin) (rs : RegionTrees) → IsHere (node id (Bin op) (a ∷ b ∷ []) rs) → HasUses (node id (Bin op) (a ∷ b ∷ []) rs) → SaysOf (node id (Bin op) (a ∷ b ∷ []) rs)
-  said_bin id op a b rs at same = by (folding before x) refl
+  said_plain : (id : ℕ) (op : Op2) (a b : Origin) → IsHere (node id (Bin op) (a ∷ b ∷ []) no_regions) → HasUses (node id (Bin op) (a ∷ b ∷ []) no_regions) → SaysOf (node id (Bin op) (a ∷ b ∷ []) no_regions)
+  said_plain id op a b at same = by (folding before x) refl
     where
       x : NodeTree
-      x = node id (Bin op) (a ∷ b ∷ []) rs
+      x = node id (Bin op) (a ∷ b ∷ []) no_regions
 
       reads-x : AreRead (is_argument (length args)) (known_after [] before) (a ∷ b ∷ [])
-      reads-x = reads l context args before (node id (Bin op) (a ∷ b ∷ []) rs) after results uses around well at same
+      reads-x = reads l context args before (node id (Bin op) (a ∷ b ∷ []) no_regions) after results uses around well at same
 
       known : AreOutputsAmong (nodes_ids before) (a ∷ b ∷ [])
       known = there (a ∷ b ∷ []) reads-x
 
-      none : (n : ℕ) → IsAmong n (regions_ids rs) → ⊥
-      none =
-          none_in op id (a ∷ b ∷ []) rs
-          (regions_of_it l args before (node id (Bin op) (a ∷ b ∷ []) rs) after results (part l context args before (node id (Bin op) (a ∷ b ∷ []) rs) after results uses around well at same))
+      none : (n : ℕ) → IsAmong n [] → ⊥
+      none n h = h
 
-      of : (f : Folded) → IsOfOperands a b f → folding before (node id (Bin op) (a ∷ b ∷ []) rs) ≡ Some f →
-          IsSaid fold_change l context args before (node id (Bin op) (a ∷ b ∷ []) rs) after results (asked.part_of before uses (node id (Bin op) (a ∷ b ∷ []) rs) (Some f))
-      of (word w) h e = word_comes l context args before (node id (Bin op) (a ∷ b ∷ []) rs) after results uses around well at same w e
-      of (input c) (inl d) e = input_comes l context args before (node id (Bin op) (a ∷ b ∷ []) rs) after results uses around well at same c e (subst (IsOutputAmong (nodes_ids before)) (sym d) known.0) none
-      of (input c) (inr d) e = input_comes l context args before (node id (Bin op) (a ∷ b ∷ []) rs) after results uses around well at same c e (subst (IsOutputAmong (nodes_ids before)) (sym d) known.1.0) none
+      of : (f : Folded) → IsOfOperands a b f → folding before (node id (Bin op) (a ∷ b ∷ []) no_regions) ≡ Some f →
+          IsSaid fold_change l context args before (node id (Bin op) (a ∷ b ∷ []) no_regions) after results (asked.part_of before uses (node id (Bin op) (a ∷ b ∷ []) no_regions) (Some f))
+      of (word w) h e = word_comes l context args before (node id (Bin op) (a ∷ b ∷ []) no_regions) after results uses around well at same w e
+      of (input c) (inl d) e = input_comes l context args before (node id (Bin op) (a ∷ b ∷ []) no_regions) after results uses around well at same c e (subst (IsOutputAmong (nodes_ids before)) (sym d) known.0) none refl
+      of (input c) (inr d) e = input_comes l context args before (node id (Bin op) (a ∷ b ∷ []) no_regions) after results uses around well at same c e (subst (IsOutputAmong (nodes_ids before)) (sym d) known.1.0) none refl
       of (replacement r inputs) h e = absurd h
 
-      by : (f : Option Folded) → folding before (node id (Bin op) (a ∷ b ∷ []) rs) ≡ f →
-          IsSaid fold_change l context args before (node id (Bin op) (a ∷ b ∷ []) rs) after results (asked.part_of before uses (node id (Bin op) (a ∷ b ∷ []) rs) f)
-      by None e = not_folded l context args before (node id (Bin op) (a ∷ b ∷ []) rs) after results uses around well at same e
+      by : (f : Option Folded) → folding before (node id (Bin op) (a ∷ b ∷ []) no_regions) ≡ f →
+          IsSaid fold_change l context args before (node id (Bin op) (a ∷ b ∷ []) no_regions) after results (asked.part_of before uses (node id (Bin op) (a ∷ b ∷ []) no_regions) f)
+      by None e = not_folded l context args before (node id (Bin op) (a ∷ b ∷ []) no_regions) after results uses around well at same e
       by (Some f) e = of f (of_operands op a b (constant before a) (constant before b) f e) e
+
+  said_bin : (id : ℕ) (op : Op2) (a b : Origin) (rs : RegionTrees) → IsHere (node id (Bin op) (a ∷ b ∷ []) rs) → HasUses (node id (Bin op) (a ∷ b ∷ []) rs) → SaysOf (node id (Bin op) (a ∷ b ∷ []) rs)
+  said_bin id op a b no_regions at same = said_plain id op a b at same
+  said_bin id op a b (region_then r rs) at same =
+      absurd
+      (let e : false ≡ true =
+      regions_of_it l args before (node id (Bin op) (a ∷ b ∷ []) (region_then r rs)) after results
+      (part l context args before (node id (Bin op) (a ∷ b ∷ []) (region_then r rs)) after results uses around well at same) in
+      cc)
 
   said_un : (id : ℕ) (op : Op1) (a : Origin) (rs : RegionTrees) → IsHere (node id (Un op) (a ∷ []) rs) → HasUses (node id (Un op) (a ∷ []) rs) → SaysOf (node id (Un op) (a ∷ []) rs)
   said_un id op a rs at same = by (constant before a) refl

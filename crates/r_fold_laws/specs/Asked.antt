@@ -1,19 +1,12 @@
 -- Folding as a walk asks it: what it says of a node.
-use Rattle.std.specs.Prelude.{ℕ, zero, suc, [], ◌∷◌, List, Option, None, Some, if◌then◌else◌, unwrap_or}
+use Rattle.std.specs.Prelude.{[], ◌∷◌, List, Option, None, Some, if◌then◌else◌, unwrap_or}
 use Rattle.g_graph.specs.declared.op.Op.TheVariants.{Const, Gamma}
 use Rattle.g_graph.specs.declared.op.Origin.{Origin}
 use Rattle.g_graph.specs.declared.op.Origin.TheVariants.{Out}
-use Rattle.g_graph.specs.Plain.{NodeTree, node, NodeTrees, no_nodes, node_then, RegionTrees, no_regions, region_then, id_of}
+use Rattle.g_graph.specs.Plain.{NodeTree, node, NodeTrees, no_nodes, node_then, no_regions, id_of, op_of, inputs_in}
 use Rattle.g_graph.specs.Nodes.{constant}
-use Rattle.r_fold.specs.Rule.{Folded, word, input, replacement, folding}
+use Rattle.r_fold.specs.Rule.{Folded, word, input, replacement, chosen_place, folding}
 use Rattle.r_walk_def.specs.Walk.{Part, stays, becomes, opened, Asked, is_in}
-
--- the place of the chosen region, which of n is the one numbered min(w, n - 1)
-abbrev pub chosen_place : ℕ → RegionTrees → ℕ
-chosen_place w no_regions = 0
-chosen_place w (region_then r no_regions) = 0
-chosen_place zero (region_then r rs) = 0
-chosen_place (suc w) (region_then r rs) = suc (chosen_place w rs)
 
 -- the region of the node that comes in its place: of a Gamma the chosen one, whose results are the node's outputs; of a Theta
 -- its only one, whose first result is the predicate
@@ -21,11 +14,12 @@ abbrev pub opened_of : NodeTrees → NodeTree → (inputs : List Origin) → Par
 opened_of before (node id Gamma (p ∷ entries) rs) inputs = opened (chosen_place (unwrap_or (constant before p) 0) rs) inputs 0
 opened_of before x inputs = opened 0 inputs 1
 
--- A constant has the node's number; an origin comes for uses of the output, where there is one.
+-- A constant has the node's number. An origin comes for uses of the output, where there is one; the node, which has no
+-- regions, stays.
 abbrev pub part_of : NodeTrees → (uses : List Origin) → NodeTree → Option Folded → Part
 part_of before uses x None = stays
 part_of before uses x (Some (word w)) = becomes (node_then (node (id_of x) (Const w) [] no_regions) no_nodes) [] 0
-part_of before uses x (Some (input a)) = if is_in uses (Out (id_of x) 0) then becomes (node_then x no_nodes) (a ∷ []) 0 else stays
+part_of before uses x (Some (input a)) = if is_in uses (Out (id_of x) 0) then becomes (node_then (node (id_of x) (op_of x) (inputs_in x) no_regions) no_nodes) (a ∷ []) 0 else stays
 part_of before uses x (Some (replacement r inputs)) = opened_of before x inputs
 
 abbrev pub fold_asked : Asked

@@ -10,7 +10,7 @@ mod uses;
 mod walker;
 mod words;
 
-pub use rule::{New, Opening, Said, WalkRule, said};
+pub use rule::{New, Opening, Said, WalkRule, becomes_or_stays};
 pub use uses::Uses;
 pub use walker::walk;
 pub use words::Words;

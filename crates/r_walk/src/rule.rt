@@ -38,7 +38,7 @@ pub enum Said {
 }
 
 /// Nodes that are not walked come, where there are any.
-pub fn said(new: Option<New>) -> Said
+pub fn becomes_or_stays(new: Option<New>) -> Said
     ensures { said_of result ≡ part_of (made_of new) }
 {
     match new {

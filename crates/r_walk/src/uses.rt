@@ -33,7 +33,7 @@ impl Uses {
     pub fn is_used(&self, node: u32, port: u32) -> bool
         ensures { result ≡ uses_in self.now node port }
     {
-        self.outputs.contains(key(node, port))
+        self.outputs.contains(&key(node, port))
     }
 
     fn add_one(&mut self, origin: Origin) -> Result<(), NoMemory>

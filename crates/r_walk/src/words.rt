@@ -57,7 +57,7 @@ impl Words {
         ensures { OnOk result ((before : NodeTrees) → AreWords self.old before →
             AreWords self.new (joined_nodes before (node_then node.now no_nodes))) }
     {
-        if self.words.get(&node.id).is_none() {
+        if !self.words.contains_key(&node.id) {
             self.words.insert(node.id, const_word(node))?;
         }
         Ok(())

@@ -27,7 +27,7 @@ returns-clause-ok g c =
     record {
       nodes = c.in_ok-append.ensures.items;
       moved = λ n p.
-          subst (λ y. output_in c.note.new.self n p ≡ (if n == id_of y then unwrap_or (slice_get c.args.new.outputs.items p) (Out n p) else output_in c.args.moves.now n p)) c.node.view_is
+          subst (λ y. output_in c.note.new.self n p ≡ (if n == id_of y then unwrap_or (slice_get c.args.new.outputs.items p) (Out n p) else output_in c.args.tables.now.moves n p)) c.node.view_is
           (c.in_ok-note.ensures n p);
       now_is =
           subst (λ y. walking c.step.new.self.values c.step.new.self.next c.push.new.self.items ≡ stepped rule (id_of y) (node_values y) new c.args.new.taken w) c.node.view_is
