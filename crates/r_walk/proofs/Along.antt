@@ -230,6 +230,10 @@ pub on_ok : {X Y : Type 0} (r : Result X Y) (P Q : Type 0) → (P → Q) → OnO
 on_ok (Ok x) P Q f h = f h
 on_ok (Err e) P Q f h = tt
 
+pub on_both : {X Y : Type 0} (r : Result X Y) (P Q S : Type 0) → (P → Q → S) → OnOk r P → OnOk r Q → OnOk r S
+on_both (Ok x) P Q S f h k = f h k
+on_both (Err e) P Q S f h k = tt
+
 -- ---- counts
 
 counted : (n : ℕ) → saturated n < 2 ^ 64 - 1 → saturated n ≡ n

@@ -1,14 +1,15 @@
 -- Each node and region that is walked goes on with the whole.
 use Rattle.std.proofs.Common.{◌≡◌, ◌+◌, ◌∷◌, ◌++◌, [], map, length, drop, drop_of_length-le, ap, ap₂, sym, subst, ◌∙◌}
 use Rattle.std.proofs.lemmas.List.{append-nil, drop_more}
-use Rattle.g_graph.specs.Plain.{node, region, region_then, inputs_in, nodes_of, regions_of}
+use Rattle.g_graph.specs.Count.{node_values}
+use Rattle.g_graph.specs.Plain.{node, region, region_then, id_of, inputs_in, regions_in, nodes_of, regions_of}
 use Rattle.g_mean.specs.Copies.{IsClosed, AllClosed}
 use Rattle.r_walk_def.specs.Context.{joined_regions}
 use Rattle.r_walk_def.specs.Walk.{walk_node, walk_nodes, walk_region, walk_regions, open_at}
-use Rattle.r_walk.specs.Asks.{walking, IsSound, AllSound, AreSoundNodes, AreInnerClosed}
+use Rattle.r_walk.specs.Asks.{said_of, walking, IsSound, AllSound, AreSoundNodes, AreInnerClosed}
 use Rattle.r_walk.specs.Moves.{origin_in}
 use Rattle.r_walk.specs.Walks.{IsCursor, IsWalked, HasStepped}
-use Rattle.r_walk.proofs.Along.{region_inner, IsAlong, begin, begins, goes_on, ends, region_written, joined_more, joined_none, gained_more, stays_walked, step_walked, open_walked, none_walked, inner_cursor, region_walked, on_ok}
+use Rattle.r_walk.proofs.Along.{region_inner, IsAlong, begin, begins, goes_on, ends, region_written, joined_more, joined_none, gained_more, stays_walked, step_walked, open_walked, none_walked, inner_cursor, region_walked, on_ok, on_both}
 use Rattle.r_walk.proofs.Sound.{region_nodes}
 use Rattle.r_walk.proofs.walker.+walk.Goals as goal
 
@@ -108,10 +109,47 @@ walk_regions-returns-clause-ok g t c =
     ∙ c.loop-region.invariant.along
 
 pub walk_node-returns-in-Becomes-clause-ok : goal.walk_node-returns-in-Becomes-clause-ok
-walk_node-returns-in-Becomes-clause-ok g t c = ?
+walk_node-returns-in-Becomes-clause-ok g t c =
+    let looks = g.R.WalkRule.looks c.args.by.now in
+    let rule = g.R.WalkRule.rule c.args.by.now in
+    let ask = g.R.WalkRule.asked c.args.by.now in
+    let x = c.node.inside in
+    let w = walking c.args.counts.now.values c.args.counts.now.next c.args.log.now.items in
+    let now = walking c.step.new.counts.values c.step.new.counts.next c.step.new.log.items in
+    let ins : c.in_ok-reads.reads.items ≡ map (origin_in c.args.tables.now.moves c.args.inputs.now) x.inputs.items =
+    c.in_ok-reads.ensures ∙ ap (λ y. map (origin_in c.args.tables.now.moves c.args.inputs.now) (inputs_in y)) (sym c.node.view_is) in
+    on_both c.step.result _ _ _
+    (λ h noted k is.
+    subst (λ y. IsWalked looks k (walk_node rule ask y k w) c.args.written.now.items c.step.new.written.items c.step.new.tables.moves c.step.new.tables.words now) c.node.view_is
+    (step_walked looks rule ask x.id x.op x.inputs.items (regions_of x.regions.items) k c.args.inputs.now c.args.tables.now.moves c.args.tables.now.words c.args.uses.now w is c.in-Becomes.new
+    c.args.written.now.items c.step.new.written.items c.step.new.tables.moves c.step.new.tables.words now
+    (λ before os around. ap said_of (sym c.in-Becomes.is) ∙ c.in_ok-said.ensures before os around
+    ∙ ap₂ (λ os' ss. ask w.values w.next before os (node x.id x.op os' (regions_of ss))) (c.as_slice.ensures ∙ ins) c.deref.ensures.value)
+    (subst (λ y. HasStepped rule y c.in-Becomes.new c.args.written.now.items c.step.new.written.items c.args.tables.now.moves c.step.new.tables.moves w now) (sym c.node.view_is) h)
+    noted))
+    c.step.ensures.ok c.step.ensures.words
 
 pub walk_node-returns-in-Opened-clause-ok : goal.walk_node-returns-in-Opened-clause-ok
-walk_node-returns-in-Opened-clause-ok g t c = ?
+walk_node-returns-in-Opened-clause-ok g t c =
+    let looks = g.R.WalkRule.looks c.args.by.now in
+    let rule = g.R.WalkRule.rule c.args.by.now in
+    let ask = g.R.WalkRule.asked c.args.by.now in
+    let x = c.node.inside in
+    let it = c.in-Opened.opening in
+    let w = walking c.args.counts.now.values c.args.counts.now.next c.args.log.now.items in
+    let now = walking c.open.new.counts.values c.open.new.counts.next c.open.new.log.items in
+    let ins : c.in_ok-reads.reads.items ≡ map (origin_in c.args.tables.now.moves c.args.inputs.now) x.inputs.items =
+    c.in_ok-reads.ensures ∙ ap (λ y. map (origin_in c.args.tables.now.moves c.args.inputs.now) (inputs_in y)) (sym c.node.view_is) in
+    on_ok c.open.result _ _
+    (λ h k is.
+    subst (λ y. IsWalked looks k (walk_node rule ask y k w) c.args.written.now.items c.open.new.written.items c.open.new.tables.moves c.open.new.tables.words now) c.node.view_is
+    (open_walked looks rule ask x.id x.op x.inputs.items (regions_of x.regions.items) k c.args.inputs.now c.args.tables.now.moves c.args.tables.now.words c.args.uses.now w is it
+    c.args.written.now.items c.open.new.written.items c.open.new.tables.moves c.open.new.tables.words now
+    (λ before os around. ap said_of (sym c.in-Opened.is) ∙ c.in_ok-said.ensures before os around
+    ∙ ap₂ (λ os' ss. ask w.values w.next before os (node x.id x.op os' (regions_of ss))) (c.as_slice.ensures ∙ ins) c.deref.ensures.value)
+    (subst (λ y. IsWalked looks k (open_at rule ask (regions_in y) (id_of y) (node_values y) it.which it.inputs.items it.from k w) c.args.written.now.items c.open.new.written.items c.open.new.tables.moves
+    c.open.new.tables.words now) (sym c.node.view_is) (h k c.args.inputs.now is))))
+    c.open.ensures.ok
 
 pub walk_node-returns-in-Stays-clause-ok : goal.walk_node-returns-in-Stays-clause-ok
 walk_node-returns-in-Stays-clause-ok g t c = ?
