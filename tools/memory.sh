@@ -112,7 +112,7 @@ refuse() {
         rm -f "$out"
         REFUSED=$number LD_PRELOAD=$folder/refuse.so "$program" "$@" <"$input" >"$folder/output" 2>"$folder/report" 9>"$folder/refused"
         status=$?
-        where="${1-} $(basename "${2-}") $(basename "${3-}") ${4-} ${5-} ${6-} ${7-} without allocation $number of $(cat "$folder/refused") bytes"
+        where="${1-} $(basename -- "${2-}") $(basename -- "${3-}") ${4-} ${5-} ${6-} ${7-} without allocation $number of $(cat "$folder/refused") bytes"
         case "$status $(cat "$folder/report")" in
             "0 $(cat "$folder/whole_report")")
                 cmp -s "$folder/whole_output" "$folder/output" || fail "the output differs: $where"
