@@ -41,7 +41,9 @@ LONG = (("int a = getchar();" + " a = a + 7;" * 4000 + " return a;", "cne,dne", 
         ("int i = 0;" + " while (i < 3) i = i + 1;" * 100 + " return i;", "ivt", ["main 4508 4808"], {"ivt": 100}),
         ("int i = 0;" + " while (i < 3) i = i + 1;" * 200 + " return i;", "ivt", ["main 9008 9008"], {}),
         ("int i = 0;" + " do i = i + 1; while (i < 3);" * 200 + " return i;", "url", ["main 4008 8162"], {"url": 134}),
-        ("int a = 0;" + " a = id(a);" * 2000 + " return a;", "iln", ["id 11 11", "main 8008 8008"], {"iln": 2000}))
+        ("int a = 0;" + " a = id(a);" * 2000 + " return a;", "iln", ["id 11 11", "main 8008 8008"], {"iln": 2000}),
+        ("int a = getchar();" + " if (1) a = a + 0;" * 800 + " return a;", "fold", ["main 19209 4809"], {"fold": 1600}),
+        ("int a = 0;" + " a = a + getchar();" * 2000 + " return a;", "default", ["main 10008 10004"], {"fold": 1, "dne": 2}))
 for body, recipe, values, steps in LONG:
     first = "int id(int x) { return x + 1; } " if "id(" in body else ""
     _, report, _ = comparison.build(("%sint main(void) { %s }" % (first, body)).encode(), recipe, log=True)

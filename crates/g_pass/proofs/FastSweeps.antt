@@ -14,6 +14,7 @@ use Rattle.r_sweep_def.specs.Swept.{Logged, Change, tried_by, swept_by}
 use Rattle.r_sweep_laws.specs.Fast.{HasSwept}
 use Rattle.g_pass.specs.Fast.{is_in_arena, is_fast, FastRulesKeep, change_of}
 use Rattle.g_pass.specs.Sweep.{applies, applied, rules}
+use Rattle.r_fold.specs.Laws.{FoldIsAStep}
 use Rattle.r_cne.specs.Laws.{CneIsAStep}
 use Rattle.r_dne.specs.Laws.{DneIsAStep}
 use Rattle.r_inv.specs.Laws.{InvIsAStep}
@@ -28,16 +29,16 @@ logged l steps = record { lambda = l; steps = steps }
 is_no_truth : {A : Type 0} → false ≡ true → A
 is_no_truth e = absurd cc
 
-pub fast_rules_keep : CneIsAStep → DneIsAStep → InvIsAStep → UrlIsAStep → IvtIsAStep → FastRulesKeep
-fast_rules_keep cne dne inv url ivt Cne n l fast well = (cne [] n l well).well_formed
-fast_rules_keep cne dne inv url ivt Dne n l fast well = (dne [] n l well).well_formed
-fast_rules_keep cne dne inv url ivt Inv n l fast well = (inv [] n l well).well_formed
-fast_rules_keep cne dne inv url ivt Fold n l fast well = is_no_truth fast
-fast_rules_keep cne dne inv url ivt Push n l fast well = is_no_truth fast
-fast_rules_keep cne dne inv url ivt Pull n l fast well = is_no_truth fast
-fast_rules_keep cne dne inv url ivt Invert n l fast well = (ivt [] n l well).well_formed
-fast_rules_keep cne dne inv url ivt Unroll n l fast well = (url [] n l well).well_formed
-fast_rules_keep cne dne inv url ivt Inline n l fast well = well
+pub fast_rules_keep : FoldIsAStep → CneIsAStep → DneIsAStep → InvIsAStep → UrlIsAStep → IvtIsAStep → FastRulesKeep
+fast_rules_keep fold cne dne inv url ivt Cne n l fast well = (cne [] n l well).well_formed
+fast_rules_keep fold cne dne inv url ivt Dne n l fast well = (dne [] n l well).well_formed
+fast_rules_keep fold cne dne inv url ivt Inv n l fast well = (inv [] n l well).well_formed
+fast_rules_keep fold cne dne inv url ivt Fold n l fast well = (fold [] n l well).well_formed
+fast_rules_keep fold cne dne inv url ivt Push n l fast well = is_no_truth fast
+fast_rules_keep fold cne dne inv url ivt Pull n l fast well = is_no_truth fast
+fast_rules_keep fold cne dne inv url ivt Invert n l fast well = (ivt [] n l well).well_formed
+fast_rules_keep fold cne dne inv url ivt Unroll n l fast well = (url [] n l well).well_formed
+fast_rules_keep fold cne dne inv url ivt Inline n l fast well = well
 
 -- ---- a sweep of a fast rule keeps a lambda well formed, and what the log had
 

@@ -1,7 +1,7 @@
 -- Which rules are swept at once, over an arena or in one walk, and a sweep of a rule as the fold of its test and its change.
 use Rattle.std.specs.Prelude.{◌≡◌, ℕ, Bool, true, false, List, IsTrue}
 use Rattle.g_graph.specs.declared.steps.Rule.{Rule}
-use Rattle.g_graph.specs.declared.steps.Rule.TheVariants.{Cne, Dne, Inv, Unroll, Invert, Inline}
+use Rattle.g_graph.specs.declared.steps.Rule.TheVariants.{Cne, Dne, Inv, Push, Pull, Inline}
 use Rattle.g_graph.specs.declared.steps.Step.{Step}
 use Rattle.g_graph.specs.Plain.{PlainLambda}
 use Rattle.g_graph.specs.Ids.{region_ids}
@@ -17,13 +17,9 @@ is_in_arena Inv = true
 is_in_arena _ = false
 
 abbrev pub is_fast : Rule → Bool
-is_fast Cne = true
-is_fast Dne = true
-is_fast Inv = true
-is_fast Unroll = true
-is_fast Invert = true
-is_fast Inline = true
-is_fast _ = false
+is_fast Push = false
+is_fast Pull = false
+is_fast _ = true
 
 -- what such a rule makes of a well-formed lambda is well formed
 abbrev pub FastRulesKeep : Type 0

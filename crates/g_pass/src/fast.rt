@@ -28,10 +28,7 @@ use steps::Steps;
 pub const fn is_fast(rule: Rule) -> bool
     ensures { result ≡ is_fast rule }
 {
-    matches!(
-        rule,
-        Rule::Cne | Rule::Dne | Rule::Inv | Rule::Unroll | Rule::Invert | Rule::Inline
-    )
+    !matches!(rule, Rule::Push | Rule::Pull)
 }
 
 /// Whether a sweep of the rule goes over an arena.
@@ -143,6 +140,7 @@ fn walked(
 {
     fast_rules_keep();
     match rule {
+        Rule::Fold => r_fold_walk::sweep_fast(alloc, lambda, log),
         Rule::Unroll => r_unroll_walk::sweep_fast(alloc, lambda, log),
         Rule::Invert => r_invert_walk::sweep_fast(alloc, lambda, log),
         Rule::Inline => r_inline_walk::sweep_fast(alloc, lambda, callees, log),
@@ -180,6 +178,7 @@ fn sweep_arena<L: Ledger>(
 fn fast_rules_keep()
     ensures { FastRulesKeep }
 {
+    r_fold::laws::fold_keeps_meaning();
     r_cne::laws::cne_keeps_meaning();
     r_dne::laws::dne_keeps_meaning();
     r_inv::laws::inv_keeps_meaning();

@@ -35,8 +35,8 @@ fn numbers(alloc: Global, rule: Rule, lambda: &Lambda) -> Result<Vec<u32>, NoMem
 /// functions that the lambda calls were made into. The steps that applied are appended to the log.
 /// `NoMemory` only where the allocator has none, or where a node or a region has more than
 /// 4294967295 contents of a kind; the lambda is then the one after the logged steps. A sweep of
-/// `fold`, `psh` or `pll` takes linear time for each of its nodes, any other one time n log n in the
-/// lambda, in the callees and in what comes.
+/// `psh` or `pll` takes linear time for each of its nodes, any other one time n log n in the lambda,
+/// in the callees and in what comes.
 pub fn sweep(
     alloc: Global,
     rule: Rule,

@@ -1,7 +1,7 @@
 //! Arenas and walks. `check` puts a lambda that is well formed into an arena and takes it out
-//! again, and sweeps `cne`, `dne`, `inv`, `iln`, `ivt` and `url` over it step by step and at once,
-//! where the callees are the lambdas before it; it says where the two differ. `left NODES` sweeps `dne` over an arena of the lambda, and says which of these nodes the
-//! arena then has.
+//! again, and sweeps each rule that has a sweep at once over it both step by step and at once, where
+//! the callees are the lambdas before it; it says where the two differ. `left NODES` sweeps `dne`
+//! over an arena of the lambda, and says which of these nodes the arena then has.
 
 ghost use Rattle.std.specs.Prelude.{◌≡◌, ◌<◌};
 ghost use Rattle.g_graph.specs.WellFormed.{IsWellFormed};
@@ -51,7 +51,7 @@ fn sweep_by_steps(
     requires { IsWellFormed lambda.old }
 {
     let mut numbers = ids(alloc, lambda)?;
-    if rule == Rule::Dne {
+    if matches!(rule, Rule::Dne | Rule::Pull) {
         numbers.reverse();
     }
     for node in &numbers {
@@ -89,6 +89,7 @@ fn compare(row: &mut Row, lambda: &Lambda) -> Result<(), NoMemory>
     }
     let callees = callees_of(row.alloc, &row.lambdas)?;
     for rule in [
+        Rule::Fold,
         Rule::Cne,
         Rule::Dne,
         Rule::Inv,

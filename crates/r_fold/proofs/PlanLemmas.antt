@@ -7,7 +7,7 @@ use Rattle.g_graph.specs.declared.op.Op.TheVariants.{Const, Undef, Local, Delta,
 use Rattle.g_graph.specs.declared.op.Origin.{Origin}
 use Rattle.g_graph.specs.Plain.{RegionTree, region, NodeTree, node, NodeTrees, RegionTrees, no_regions, region_then, regions_of, nodes_in}
 use Rattle.g_graph.specs.Nodes.{node_at, constant}
-use Rattle.r_fold.specs.Rule.{is_word, Folded, word, input, replacement, gamma_folded, theta_folded, chosen_region, folding, folded, fold_here}
+use Rattle.r_fold.specs.Rule.{is_word, Folded, word, input, replacement, gamma_folded, theta_folded, chosen_region, chosen_place, folding, folded, fold_here}
 use Rattle.r_fold.specs.Plan.{planned, bin_case, un_case, theta_case, plain_case, replacement_case, has_one_turn, carried_out}
 
 -- ---- the cases of the rule
@@ -119,6 +119,22 @@ chosen_last (suc w) (s ∷ []) h = refl
 chosen_last (suc w) (s ∷ t ∷ rs) h =
     let index : suc (length (t ∷ rs) - 1) ≡ length (s ∷ t ∷ rs) - 1 = omega arith in
     chosen_last w (t ∷ rs) (omega arith) ∙ ap (slice_get (s ∷ t ∷ rs)) index
+
+-- the place of the region that is chosen
+pub place_within : (w : ℕ) (rs : List RegionTree) → w < length rs → w ≡ chosen_place w (regions_of rs)
+place_within w [] h = absurd (omega arith)
+place_within zero (s ∷ []) h = refl
+place_within (suc w) (s ∷ []) h = absurd (omega arith)
+place_within zero (s ∷ t ∷ rs) h = refl
+place_within (suc w) (s ∷ t ∷ rs) h = ap suc (place_within w (t ∷ rs) (omega arith))
+
+pub place_last : (w : ℕ) (rs : List RegionTree) → length rs ≤ w → length rs - 1 ≡ chosen_place w (regions_of rs)
+place_last w [] h = refl
+place_last zero (s ∷ rs) h = absurd (omega arith)
+place_last (suc w) (s ∷ []) h = refl
+place_last (suc w) (s ∷ t ∷ rs) h =
+    let index : length (s ∷ t ∷ rs) - 1 ≡ suc (length (t ∷ rs) - 1) = omega arith in
+    index ∙ ap suc (place_last w (t ∷ rs) (omega arith))
 
 pub theta_none : (inputs : List Origin) (rs : List RegionTree) → (length rs ≡ 1 → ⊥) → theta_case inputs (regions_of rs) ≡ None
 theta_none inputs [] h = refl

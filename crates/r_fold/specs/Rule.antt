@@ -55,6 +55,13 @@ chosen_region w (region_then r no_regions) = Some r
 chosen_region zero (region_then r rs) = Some r
 chosen_region (suc w) (region_then r rs) = chosen_region w rs
 
+-- its place
+abbrev pub chosen_place : ℕ → RegionTrees → ℕ
+chosen_place w no_regions = 0
+chosen_place w (region_then r no_regions) = 0
+chosen_place zero (region_then r rs) = 0
+chosen_place (suc w) (region_then r rs) = suc (chosen_place w rs)
+
 abbrev pub gamma_folded : RegionTrees → List Origin → Option ℕ → Option Folded
 gamma_folded rs entries None = None
 gamma_folded rs entries (Some w) = option_map (λ r. replacement r entries) (chosen_region w rs)

@@ -9,4 +9,6 @@ mod plan;
 mod replacement;
 mod rule;
 
+pub use plan::{Plan, operand_plan, operands_plan};
+pub use replacement::{chosen_place, has_one_turn};
 pub use rule::{applies, apply};

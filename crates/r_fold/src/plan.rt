@@ -2,7 +2,8 @@
 
 ghost use Rattle.std.specs.Prelude.{◌≡◌, option_map};
 ghost use Rattle.g_graph.specs.Plain.{nodes_of};
-ghost use Rattle.r_fold.specs.Rule.{is_word, left_neutral, right_neutral, bin_folded};
+ghost use Rattle.val_core.specs.Words.{word1};
+ghost use Rattle.r_fold.specs.Rule.{is_word, left_neutral, right_neutral, word, bin_folded};
 ghost use Rattle.r_fold.specs.Plan.{planned, bin_case, un_case, plain_case};
 
 use g_graph::{Node, Op, Origin, Region, constant};
@@ -43,16 +44,23 @@ fn un_plan(nodes: &[Node], op: Op1, inputs: &[Origin]) -> Option<Plan>
     ensures { result ≡ option_map planned (un_case (nodes_of nodes.now) op inputs.now) }
 {
     match inputs {
-        [a] => match constant(nodes, *a) {
-            Some(word) => Some(Plan::Word(op1(op, word))),
-            None => None,
-        },
+        [a] => operand_plan(op, constant(nodes, *a)),
         _ => None,
     }
 }
 
-// The plan for an operation on these operands, of which these words are known.
-fn operands_plan(
+/// The plan for an operation on an operand, of which this word is known.
+pub fn operand_plan(op: Op1, known: Option<u32>) -> Option<Plan>
+    ensures { result ≡ option_map planned (option_map (λ u. word (word1 op u)) known) }
+{
+    match known {
+        Some(word) => Some(Plan::Word(op1(op, word))),
+        None => None,
+    }
+}
+
+/// The plan for an operation on these operands, of which these words are known.
+pub fn operands_plan(
     op: Op2,
     a: Origin,
     b: Origin,

@@ -4,7 +4,7 @@ ghost use Rattle.std.specs.Prelude.{◌≡◌, IfOk, is_some, option_map, option
 ghost use Rattle.g_graph.specs.Plain.{nodes_of, regions_of};
 ghost use Rattle.g_graph.specs.Replace.{region_redirected};
 ghost use Rattle.g_graph.specs.Splice.{args_to_inputs};
-ghost use Rattle.r_fold.specs.Rule.{chosen_region, theta_folded};
+ghost use Rattle.r_fold.specs.Rule.{chosen_region, chosen_place, theta_folded};
 ghost use Rattle.r_fold.specs.Plan.{planned, gamma_case, theta_case, replacement_case, runs_once, has_one_turn};
 
 use crate::plan::{Plan, is_word};
@@ -89,6 +89,19 @@ fn choice_on(
     }
 }
 
+/// The place of the region that a constant predicate chooses: of n regions min(word, n - 1).
+#[tactic(auto, using(crate::proofs::PlanLemmas::place_within, crate::proofs::PlanLemmas::place_last))]
+pub fn chosen_place(regions: &[Region], word: u32) -> usize
+    ensures { result ≡ chosen_place word (regions_of regions.now) }
+{
+    let place = word as usize;
+    if place < regions.len() {
+        place
+    } else {
+        regions.len().saturating_sub(1)
+    }
+}
+
 // Of n regions the one numbered min(word, n - 1).
 fn chosen_region(regions: &[Region], word: u32) -> Option<&Region>
     ensures { option_copied result ≡ chosen_region word (regions_of regions.now) }
@@ -99,7 +112,8 @@ fn chosen_region(regions: &[Region], word: u32) -> Option<&Region>
     }
 }
 
-fn has_one_turn(regions: &[Region]) -> bool
+/// Whether there is one region, whose first result is a constant 0 of it.
+pub fn has_one_turn(regions: &[Region]) -> bool
     ensures { result ≡ has_one_turn (regions_of regions.now) }
 {
     regions.len() == 1 && runs_once(&regions[0])

@@ -23,7 +23,6 @@ use Rattle.r_inline.specs.Laws.{IlnIsAStep}
 use Rattle.r_inline.specs.Rule.{is_call, inlined, may_inline, applies, iln}
 use Rattle.r_walk_def.specs.Context.{IsContext}
 use Rattle.r_walk_def.specs.Laws.{AreOutputsAmong, region_with, Becomes, IsSaid}
-use Rattle.r_walk_def.specs.Walk.{inputs_of_nodes}
 use Rattle.r_walk_laws.proofs.lemmas.Contexts.{whole_part}
 use Rattle.r_walk_laws.proofs.lemmas.Copies.{copies_are_new}
 use Rattle.r_walk_laws.proofs.lemmas.Local.{ids_in, part_of, inside_it, below_next, gone}
@@ -143,8 +142,8 @@ module _ (callees : List PlainLambda) (all : AllByRecursion IsWellFormed callees
       inert = inert-so;
     }
 
-  said-so : IsSaid (inline_change callees) l context args before x after results (inline_asked callees (lambda_values l) l.next before (inputs_of_nodes after ++ results) x)
-  said-so = by (callee_for callees (lambda_values l) l.next x) refl
+  said-so : (uses : List Origin) → IsSaid (inline_change callees) l context args before x after results (inline_asked callees (lambda_values l) l.next before uses x)
+  said-so uses = by (callee_for callees (lambda_values l) l.next x) refl
     where
       by : (o : Option PlainLambda) → callee_for callees (lambda_values l) l.next x ≡ o → IsSaid (inline_change callees) l context args before x after results (asked.part_of l.next (inputs_in x) o)
       by None e = ap is_some (same ∙ e)
@@ -164,5 +163,5 @@ pub inline_is_local : IlnIsAStep → InlineIsLocal
 inline_is_local step callees all = record {
   keeps = keeps-so step callees all;
   absent = λ l n h. not-there callees n l h;
-  said = said-so callees all;
+  said = λ l context args before x after results uses around well at same. said-so callees all l context args before x after results around well at uses;
 }

@@ -19,4 +19,4 @@ part_of next inputs None = stays
 part_of next inputs (Some c) = becomes (nodes_in (inlined next c inputs)) (results_of (inlined next c inputs)) (node_count c.body)
 
 abbrev pub inline_asked : (callees : List PlainLambda) → Asked
-inline_asked callees values next before later x = part_of next (inputs_in x) (callee_for callees values next x)
+inline_asked callees values next before uses x = part_of next (inputs_in x) (callee_for callees values next x)

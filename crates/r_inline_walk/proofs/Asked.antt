@@ -22,7 +22,7 @@ use Rattle.r_walk_def.specs.Walk.{walked}
 
 module _ (callees : List PlainLambda) where
   asked_is : asks.asked_by (made_at (λ f. numbered f callees)) ≡ inline_asked callees
-  asked_is = λ i values next before later x. same values next x i
+  asked_is = λ i values next before uses x. same values next x i
     where
       one : (values next : ℕ) (op : Op) (inputs : List Origin) (c : PlainLambda) (t : Bool) →
           asks.part_of (option_map (λ r. record { nodes = nodes_in r; outputs = results_of r; taken = node_count c.body }) (cond t (Some (inlined next c inputs)) None))

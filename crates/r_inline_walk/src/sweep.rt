@@ -1,6 +1,6 @@
 //! The sweep.
 
-ghost use Rattle.std.specs.Prelude.{◌≡◌, ◌≤◌, ◌-◌, map, IfOk, OnErr};
+ghost use Rattle.std.specs.Prelude.{◌≡◌, ◌≤◌, ◌-◌, false, map, IfOk, OnErr};
 ghost use Rattle.std.specs.Arc.{arc_value};
 ghost use Rattle.std.specs.BTreeMap.{get};
 ghost use Rattle.std.specs.Ordering.{nat_cmp};
@@ -12,7 +12,7 @@ ghost use Rattle.g_graph.specs.declared.steps.Rule.TheVariants.{Inline};
 ghost use Rattle.r_inline_laws.specs.Callees.{inline_change};
 ghost use Rattle.r_inline_walk.specs.Asked.{lambdas_in, callee_at, made_at, comes_at};
 ghost use Rattle.r_sweep_def.specs.Swept.{swept_by};
-ghost use Rattle.r_walk.specs.Asks.{made_of};
+ghost use Rattle.r_walk.specs.Asks.{asked_by, made_of};
 ghost use Rattle.r_walk.specs.Walks.{HasGained};
 
 use crate::callees::{callee_of, first_of_each};
@@ -21,7 +21,7 @@ use no_memory::NoMemory;
 use r_copy::Numbered;
 use r_inline::inlined_node;
 use r_inline_laws::laws::inline_is_local;
-use r_walk::{New, WalkRule, walk};
+use r_walk::{New, Said, Uses, WalkRule, Words, becomes_or_stays, walk};
 use r_walk_laws::laws::walks_are_sweeps;
 use std::alloc::Global;
 use std::collections::BTreeMap;
@@ -66,11 +66,17 @@ struct Inlining<'a> {
 impl WalkRule for Inlining<'_> {
     ghost rule = { λ _. Inline };
 
-    ghost asked = { λ c. made_at (λ f.
-        callee_at (lambdas_in (map arc_value c.callees.now)) (get nat_cmp c.first f)) };
+    ghost asked = { λ c. asked_by (made_at (λ f.
+        callee_at (lambdas_in (map arc_value c.callees.now)) (get nat_cmp c.first f))) };
+
+    ghost looks = { λ _. false };
 
     fn rule(&self) -> Rule {
         Rule::Inline
+    }
+
+    fn looks(&self) -> bool {
+        false
     }
 
     fn ask(
@@ -78,14 +84,19 @@ impl WalkRule for Inlining<'_> {
         alloc: Global,
         values: u64,
         next: u32,
+        _words: &Words,
+        _uses: &Uses,
         _id: u32,
         op: Op,
         inputs: &[Origin],
         _regions: &[Region],
-    ) -> Result<Option<New>, NoMemory> {
+    ) -> Result<Said, NoMemory> {
         match callee_of(self.callees, &self.first, op) {
-            Some(callee) => asked(alloc, values, next, op, inputs, callee),
-            None => Ok(None),
+            Some(callee) => {
+                let new = asked(alloc, values, next, op, inputs, callee)?;
+                Ok(becomes_or_stays(new))
+            }
+            None => Ok(Said::Stays),
         }
     }
 }

@@ -16,7 +16,6 @@ use Rattle.r_copy.specs.Numbering.{node_count}
 use Rattle.r_invert.specs.Rule.{in_place, ivt_here, body_inverted, applies, with_body, ivt}
 use Rattle.r_walk_def.specs.Context.{ChangesOnlyAt, IsContext}
 use Rattle.r_walk_def.specs.Laws.{region_with, Becomes, IsSaid}
-use Rattle.r_walk_def.specs.Walk.{inputs_of_nodes}
 use Rattle.r_walk_laws.proofs.lemmas.Contexts.{whole_part}
 use Rattle.r_walk_laws.proofs.lemmas.Local.{not_found, found_here, replaced_at, ids_in, below_one, absent, not_before, changed_at, unchanged_at, inside_it, below_next, ids_now, gone}
 use Rattle.r_invert_laws.specs.Asked as asked
@@ -97,8 +96,8 @@ module _ (l : PlainLambda) (context : RegionTree → RegionTree) (args : List Ki
       inert = inert-so;
     }
 
-  said-so : IsSaid invert_change l context args before x after results (invert_asked (lambda_values l) l.next before (inputs_of_nodes after ++ results) x)
-  said-so = by (in_place (lambda_values l) l.next x) refl
+  said-so : (uses : List Origin) → IsSaid invert_change l context args before x after results (invert_asked (lambda_values l) l.next before uses x)
+  said-so uses = by (in_place (lambda_values l) l.next x) refl
     where
       by : (o : Option RegionTree) → in_place (lambda_values l) l.next x ≡ o → IsSaid invert_change l context args before x after results (asked.part_of o)
       by None e = stays-so e
@@ -108,5 +107,5 @@ pub invert_is_local : ((n : ℕ) (l : PlainLambda) → IsWellFormed l → IsWell
 invert_is_local keeps = record {
   keeps = λ l n well may. keeps n l well;
   absent = not-there;
-  said = said-so;
+  said = λ l context args before x after results uses around well at same. said-so l context args before x after results around well at uses;
 }

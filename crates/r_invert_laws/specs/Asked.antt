@@ -11,4 +11,4 @@ part_of None = stays
 part_of (Some r) = becomes (nodes_in r) (results_of r) (node_count r)
 
 abbrev pub invert_asked : Asked
-invert_asked values next before later x = part_of (in_place values next x)
+invert_asked values next before uses x = part_of (in_place values next x)

@@ -29,7 +29,7 @@ use Rattle.r_walk_def.specs.Laws.{WalksAreSweeps}
 use Rattle.r_walk_def.specs.Walk.{walked}
 
 asked_is : asks.asked_by made_at ≡ invert_asked
-asked_is = λ i values next before later x. by (in_place values next x) i
+asked_is = λ i values next before uses x. by (in_place values next x) i
   where
     by : (o : Option RegionTree) → asks.part_of (option_map (λ r. record { nodes = nodes_in r; outputs = results_of r; taken = node_count r }) o) ≡ part_of o
     by None = refl

@@ -1,14 +1,16 @@
 //! The sweep.
 
-ghost use Rattle.std.specs.Prelude.{◌≡◌, ◌<◌, ◌^◌, IfOk, OnErr};
+ghost use Rattle.std.specs.Prelude.{◌≡◌, ◌<◌, ◌^◌, ℕ, false, IfOk, OnErr};
 ghost use Rattle.g_graph.specs.Ids.{region_ids};
-ghost use Rattle.g_graph.specs.Plain.{nodes_in, nodes_of, results_of};
+ghost use Rattle.g_graph.specs.Plain.{node, nodes_in, nodes_of, regions_of, results_of};
 ghost use Rattle.g_graph.specs.WellFormed.{IsWellFormed};
 ghost use Rattle.g_graph.specs.declared.steps.Rule.TheVariants.{Invert};
 ghost use Rattle.r_copy.specs.Numbering.{node_count};
 ghost use Rattle.r_invert_laws.specs.Laws.{invert_change};
 ghost use Rattle.r_invert_walk.specs.Asked.{made_at};
 ghost use Rattle.r_sweep_def.specs.Swept.{swept_by};
+ghost use Rattle.g_mean.specs.Copies.{AllClosed};
+ghost use Rattle.r_walk.specs.Asks.{asked_by, made_of, AreSoundIn};
 ghost use Rattle.r_walk.specs.Walks.{HasGained};
 
 use g_graph::{Lambda, Op, Origin, Region, Rule, Step};
@@ -16,7 +18,7 @@ use no_memory::NoMemory;
 use r_copy::numbers_left;
 use r_invert::inverted_node;
 use r_invert_laws::laws::invert_is_local;
-use r_walk::{New, WalkRule, walk};
+use r_walk::{New, Said, Uses, WalkRule, Words, becomes_or_stays, walk};
 use r_walk_laws::laws::walks_are_sweeps;
 use std::alloc::Global;
 
@@ -43,27 +45,53 @@ struct Inverting;
 impl WalkRule for Inverting {
     ghost rule = { λ _. Invert };
 
-    ghost asked = { λ _. made_at };
+    ghost asked = { λ _. asked_by made_at };
+
+    ghost looks = { λ _. false };
 
     fn rule(&self) -> Rule {
         Rule::Invert
     }
 
-    #[tactic(auto, using(crate::proofs::Asked::sound_so, crate::proofs::Asked::made_so, crate::proofs::Asked::none_so))]
+    fn looks(&self) -> bool {
+        false
+    }
+
     fn ask(
         &self,
         alloc: Global,
         values: u64,
         next: u32,
+        _words: &Words,
+        _uses: &Uses,
         _id: u32,
         op: Op,
         inputs: &[Origin],
         regions: &[Region],
-    ) -> Result<Option<New>, NoMemory> {
-        match inverted_node(alloc, values, next, op, inputs, regions)? {
-            Some(part) => Ok(Some(new_of(part))),
-            None => Ok(None),
-        }
+    ) -> Result<Said, NoMemory> {
+        let new = inverted(alloc, values, next, op, inputs, regions)?;
+        Ok(becomes_or_stays(new))
+    }
+}
+
+// What comes in the place of a node.
+#[tactic(auto, using(crate::proofs::Asked::sound_so, crate::proofs::Asked::made_so, crate::proofs::Asked::none_so))]
+fn inverted(
+    alloc: Global,
+    values: u64,
+    next: u32,
+    op: Op,
+    inputs: &[Origin],
+    regions: &[Region],
+) -> Result<Option<New>, NoMemory>
+    requires closed { AllClosed (regions_of regions.now) }
+    requires sound { AreSoundIn op (regions_of regions.now) }
+    ensures { IfOk result (λ new. (id : ℕ) →
+        made_of new ≡ made_at values next (node id op inputs.now (regions_of regions.now))) }
+{
+    match inverted_node(alloc, values, next, op, inputs, regions)? {
+        Some(part) => Ok(Some(new_of(part))),
+        None => Ok(None),
     }
 }
 

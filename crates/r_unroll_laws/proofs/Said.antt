@@ -23,7 +23,6 @@ use Rattle.r_edit.specs.Size.{may_change_size}
 use Rattle.r_unroll.specs.Rule.{region_loops, unrolled, growth, may_unroll, node_unrolled, url_here, body_unrolled, applies, with_body, url}
 use Rattle.r_walk_def.specs.Context.{ChangesOnlyAt, IsContext}
 use Rattle.r_walk_def.specs.Laws.{region_with, Becomes, IsSaid}
-use Rattle.r_walk_def.specs.Walk.{inputs_of_nodes}
 use Rattle.r_walk_laws.proofs.lemmas.Local.{not_found, found_here, set_at, absent, not_before, changed_at, unchanged_at, count_now, unchanged_within}
 use Rattle.r_unroll_laws.specs.Asked.{part_of, unroll_asked}
 use Rattle.r_unroll_laws.specs.Laws.{unroll_change, UnrollIsLocal}
@@ -132,30 +131,30 @@ module _ (l : PlainLambda) (context : RegionTree → RegionTree) (args : List Ki
     inert = inert-so;
   }
 
-  says : IsSaid unroll_change l context args before x after results (unroll_asked (lambda_values l) l.next before (inputs_of_nodes after ++ results) x)
-  says = subst (λ o. IsSaid unroll_change l context args before x after results (part_of (2 + node_count r) o)) (sym is-so) unrolls
+  says : (uses : List Origin) → IsSaid unroll_change l context args before x after results (unroll_asked (lambda_values l) l.next before uses x)
+  says uses = subst (λ o. IsSaid unroll_change l context args before x after results (part_of (2 + node_count r) o)) (sym is-so) unrolls
 
-said-of : (l : PlainLambda) (context : RegionTree → RegionTree) (args : List Kind) (before : NodeTrees) (x : NodeTree) (after : NodeTrees) (results : List Origin) →
+said-of : (l : PlainLambda) (context : RegionTree → RegionTree) (args : List Kind) (before : NodeTrees) (x : NodeTree) (after : NodeTrees) (results uses : List Origin) →
     IsContext context → IsWellFormed l → l.body ≡ context (region args (joined_nodes before (node_then x after)) results) →
-    IsSaid unroll_change l context args before x after results (unroll_asked (lambda_values l) l.next before (inputs_of_nodes after ++ results) x)
-said-of l context args before (node id Theta inputs (region_then r no_regions)) after results around well at = by (may_unroll (lambda_values l) l.next r) refl
+    IsSaid unroll_change l context args before x after results (unroll_asked (lambda_values l) l.next before uses x)
+said-of l context args before (node id Theta inputs (region_then r no_regions)) after results uses around well at = by (may_unroll (lambda_values l) l.next r) refl
   where
     by : (t : Bool) → may_unroll (lambda_values l) l.next r ≡ t →
         IsSaid unroll_change l context args before (node id Theta inputs (region_then r no_regions)) after results
-        (unroll_asked (lambda_values l) l.next before (inputs_of_nodes after ++ results) (node id Theta inputs (region_then r no_regions)))
-    by true e = says l context args before id inputs r after results around well at e
+        (unroll_asked (lambda_values l) l.next before uses (node id Theta inputs (region_then r no_regions)))
+    by true e = says l context args before id inputs r after results around well at e uses
     by false e =
         let x = node id Theta inputs (region_then r no_regions) in
         let none : node_unrolled (lambda_values l) l.next x ≡ None = ap (λ t. cond t (Some (node id Theta inputs (region_then (unrolled l.next r) no_regions))) None) e in
         subst (λ o. IsSaid unroll_change l context args before x after results (part_of (2 + node_count r) o)) (sym none) (stays-so l context args before x after results around well at none)
-said-of l context args before (node id Theta inputs no_regions) after results around well at = stays-so l context args before (node id Theta inputs no_regions) after results around well at refl
-said-of l context args before (node id Theta inputs (region_then r (region_then t rs))) after results around well at =
+said-of l context args before (node id Theta inputs no_regions) after results uses around well at = stays-so l context args before (node id Theta inputs no_regions) after results around well at refl
+said-of l context args before (node id Theta inputs (region_then r (region_then t rs))) after results uses around well at =
     stays-so l context args before (node id Theta inputs (region_then r (region_then t rs))) after results around well at refl
-said-of l context args before (node id op inputs rs) after results around well at = stays-so l context args before (node id op inputs rs) after results around well at refl
+said-of l context args before (node id op inputs rs) after results uses around well at = stays-so l context args before (node id op inputs rs) after results around well at refl
 
 pub unroll_is_local : ((n : ℕ) (l : PlainLambda) → IsWellFormed l → IsWellFormed (url n l)) → UnrollIsLocal
 unroll_is_local keeps = record {
   keeps = λ l n well may. keeps n l well;
   absent = λ l n h. ap is_some (absent l n (url_here (lambda_values l) l.next n) (only_there (lambda_values l) l.next n) h);
-  said = said-of;
+  said = λ l context args before x after results uses around well at same. said-of l context args before x after results uses around well at;
 }

@@ -16,4 +16,4 @@ part_of taken None = stays
 part_of taken (Some y) = becomes (node_then y no_nodes) [] taken
 
 abbrev pub unroll_asked : Asked
-unroll_asked values next before later x = part_of (numbers_taken x) (node_unrolled values next x)
+unroll_asked values next before uses x = part_of (numbers_taken x) (node_unrolled values next x)

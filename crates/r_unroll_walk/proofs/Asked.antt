@@ -15,7 +15,7 @@ use Rattle.r_walk_def.specs.Laws.{WalksAreSweeps}
 use Rattle.r_walk_def.specs.Walk.{walked}
 
 asked_is : asks.asked_by made_at ≡ unroll_asked
-asked_is = λ i values next before later x. same values next x i
+asked_is = λ i values next before uses x. same values next x i
   where
     by : (x : NodeTree) (o : Option NodeTree) → asks.part_of (option_map (λ y. record { nodes = node_then y no_nodes; outputs = []; taken = loop_numbers (regions_in x) }) o) ≡ part_of (numbers_taken x) o
     by x None = refl

@@ -1,19 +1,22 @@
 //! The sweep.
 
-ghost use Rattle.std.specs.Prelude.{◌≡◌, [], ◌∷◌, IfOk, OnErr};
+ghost use Rattle.std.specs.Prelude.{◌≡◌, [], ◌∷◌, false, IfOk, OnErr};
 ghost use Rattle.g_graph.specs.Ids.{region_ids};
+ghost use Rattle.g_graph.specs.Plain.{node, regions_of};
 ghost use Rattle.g_graph.specs.WellFormed.{IsWellFormed};
 ghost use Rattle.g_graph.specs.declared.steps.Rule.TheVariants.{Unroll};
+ghost use Rattle.g_mean.specs.Copies.{AllClosed};
 ghost use Rattle.r_sweep_def.specs.Swept.{swept_by};
 ghost use Rattle.r_unroll_laws.specs.Laws.{unroll_change};
 ghost use Rattle.r_unroll_walk.specs.Asked.{made_at};
+ghost use Rattle.r_walk.specs.Asks.{asked_by, made_of};
 ghost use Rattle.r_walk.specs.Walks.{HasGained};
 
 use g_graph::{Lambda, Op, Origin, Region, Rule, Step};
 use no_memory::NoMemory;
 use r_unroll::{UnrolledNode, unrolled_node};
 use r_unroll_laws::laws::unroll_is_local;
-use r_walk::{New, WalkRule, walk};
+use r_walk::{New, Said, Uses, WalkRule, Words, becomes_or_stays, walk};
 use r_walk_laws::laws::walks_are_sweeps;
 use std::alloc::Global;
 
@@ -40,10 +43,16 @@ struct Unrolling;
 impl WalkRule for Unrolling {
     ghost rule = { λ _. Unroll };
 
-    ghost asked = { λ _. made_at };
+    ghost asked = { λ _. asked_by made_at };
+
+    ghost looks = { λ _. false };
 
     fn rule(&self) -> Rule {
         Rule::Unroll
+    }
+
+    fn looks(&self) -> bool {
+        false
     }
 
     fn ask(
@@ -51,15 +60,35 @@ impl WalkRule for Unrolling {
         alloc: Global,
         values: u64,
         next: u32,
+        _words: &Words,
+        _uses: &Uses,
         id: u32,
         op: Op,
         inputs: &[Origin],
         regions: &[Region],
-    ) -> Result<Option<New>, NoMemory> {
-        match unrolled_node(alloc, values, next, id, op, inputs, regions)? {
-            Some(made) => Ok(Some(alone(alloc, made)?)),
-            None => Ok(None),
-        }
+    ) -> Result<Said, NoMemory> {
+        let new = unrolled(alloc, values, next, id, op, inputs, regions)?;
+        Ok(becomes_or_stays(new))
+    }
+}
+
+// What comes in the place of a node.
+fn unrolled(
+    alloc: Global,
+    values: u64,
+    next: u32,
+    id: u32,
+    op: Op,
+    inputs: &[Origin],
+    regions: &[Region],
+) -> Result<Option<New>, NoMemory>
+    requires closed { AllClosed (regions_of regions.now) }
+    ensures { IfOk result (λ new.
+        made_of new ≡ made_at values next (node id op inputs.now (regions_of regions.now))) }
+{
+    match unrolled_node(alloc, values, next, id, op, inputs, regions)? {
+        Some(made) => Ok(Some(alone(alloc, made)?)),
+        None => Ok(None),
     }
 }
 

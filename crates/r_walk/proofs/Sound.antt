@@ -7,12 +7,12 @@ use Rattle.g_graph.specs.declared.op.Op.{Op}
 use Rattle.g_graph.specs.declared.op.Op.TheVariants.{Gamma, Theta}
 use Rattle.g_graph.specs.declared.op.Origin.{Origin}
 use Rattle.g_graph.specs.Ids.{region_ids, nodes_ids, regions_ids}
-use Rattle.g_graph.specs.Plain.{region, NodeTree, node, NodeTrees, no_nodes, node_then, RegionTrees, no_regions, region_then, nodes_of, op_of, regions_in, PlainLambda}
+use Rattle.g_graph.specs.Plain.{region, NodeTree, node, NodeTrees, no_nodes, node_then, RegionTrees, no_regions, region_then, nodes_of, PlainLambda}
 use Rattle.g_graph.specs.Scope.{each_node}
 use Rattle.g_graph.specs.WellFormed.{some_of, distinct, every_region, every_in_nodes, every_in_regions, inputs_fit, inputs_are_last, node_has_one_state_each, has_its_regions, regions_fit, theta_has_states, has_its_width, has_its_object, node_fits, nodes_fit, results_are_last, returns_state, region_has_one_state_each, region_fits, IsWellFormed, well_formed, leaves_fit, body_fits, numbers_fit, all_of}
 use Rattle.g_graph.proofs.lemmas.Nests.{regions_of_well_formed}
 use Rattle.g_mean.proofs.lemmas.Edits.{distinct-split}
-use Rattle.r_walk.specs.Asks.{IsSound, AreSoundIn, AllSound}
+use Rattle.r_walk.specs.Asks.{IsSound, AllSound, AreSoundNodes}
 
 -- ---- what a node's regions must fit
 
@@ -45,11 +45,6 @@ all_sound objects (region_then r rs) t unique =
     (record { objects = objects; fits = p.0; unique = d.0 }, all_sound objects rs p.1 d.1)
 
 -- ---- nodes
-
--- each of these nodes has sound regions
-abbrev pub AreSoundNodes : NodeTrees → Type 0
-AreSoundNodes no_nodes = Unit {0}
-AreSoundNodes (node_then x xs) = (AreSoundIn (op_of x) (regions_in x) × AllSound (regions_in x)) × AreSoundNodes xs
 
 sound_nodes : (objects : ℕ) (args : List Kind) (before : List NodeTree) (ns : NodeTrees) → each_node (node_fits objects args) before ns ≡ true → every_in_nodes (region_fits objects) ns ≡ true →
     distinct (nodes_ids ns) ≡ true → AreSoundNodes ns

@@ -1,4 +1,4 @@
--- What a rule is asked that looks at one node alone, and opens no region.
+-- What a rule says of a node, and what is asked of a rule that looks at one node alone.
 use Rattle.std.specs.Prelude.{◌≡◌, ℕ, true, List, option_map}
 use Rattle.std.specs.declared.option.Option.{Option}
 use Rattle.std.specs.declared.option.Option.TheVariants.{Some, None}
@@ -6,10 +6,13 @@ use Rattle.g_graph.specs.declared.op.Op.{Op}
 use Rattle.g_graph.specs.declared.op.Origin.{Origin}
 use Rattle.g_graph.specs.declared.steps.Step.{Step}
 use Rattle.g_graph.specs.Ids.{region_ids, regions_ids}
-use Rattle.g_graph.specs.Plain.{RegionTree, NodeTree, node, NodeTrees, RegionTrees, no_regions, region_then, nodes_of}
+use Rattle.g_graph.specs.Plain.{RegionTree, NodeTree, node, NodeTrees, no_nodes, node_then, RegionTrees, no_regions, region_then, nodes_of, op_of, regions_in}
+use Rattle.g_mean.specs.Copies.{AllClosed}
 use Rattle.g_graph.specs.WellFormed.{distinct, every_region, every_in_regions, region_fits, regions_fit, theta_has_states}
 use Rattle.r_walk.specs.declared.rule.New.{New}
-use Rattle.r_walk_def.specs.Walk.{Part, stays, becomes, Asked, Walking}
+use Rattle.r_walk.specs.declared.rule.Said.{Said}
+use Rattle.r_walk.specs.declared.rule.Said.TheVariants.{Stays, Becomes, Opened}
+use Rattle.r_walk_def.specs.Walk.{Part, stays, becomes, opened, Asked, Walking}
 
 -- what comes in the place of a node
 pub record Made : Type 0 where
@@ -24,9 +27,15 @@ abbrev pub part_of : Option Made → Part
 part_of None = stays
 part_of (Some m) = becomes m.nodes m.outputs m.taken
 
+-- what a rule said
+abbrev pub said_of : Said → Part
+said_of Stays = stays
+said_of (Becomes new) = becomes (nodes_of new.nodes.items) new.outputs.items new.taken
+said_of (Opened it) = opened it.which it.inputs.items it.from
+
 -- a rule that looks at the node alone
 abbrev pub asked_by : ((values next : ℕ) → NodeTree → Option Made) → Asked
-asked_by f values next before later x = part_of (f values next x)
+asked_by f values next before uses x = part_of (f values next x)
 
 abbrev pub walking : (values next : ℕ) → List Step → Walking
 walking values next steps = record { values = values; next = next; steps = steps }
@@ -48,3 +57,12 @@ pub record AreSoundIn (op : Op) (rs : RegionTrees) : Type 0 where
 abbrev pub AllSound : RegionTrees → Type 0
 AllSound no_regions = Unit {0}
 AllSound (region_then r rs) = IsSound r × AllSound rs
+
+-- the regions of these nodes are closed, and sound with what is nested in them
+abbrev pub AreInnerClosed : NodeTrees → Type 0
+AreInnerClosed no_nodes = Unit {0}
+AreInnerClosed (node_then x xs) = AllClosed (regions_in x) × AreInnerClosed xs
+
+abbrev pub AreSoundNodes : NodeTrees → Type 0
+AreSoundNodes no_nodes = Unit {0}
+AreSoundNodes (node_then x xs) = (AreSoundIn (op_of x) (regions_in x) × AllSound (regions_in x)) × AreSoundNodes xs

@@ -1,3 +1,4 @@
+pub mod Around
 pub mod Asks
 pub mod Moves
 pub mod Walks

@@ -1,5 +1,5 @@
 -- What the parts of the walk promise.
-use Rattle.std.specs.Prelude.{◌≡◌, ◌++◌, ◌==◌, ℕ, List, if◌then◌else◌, slice_get, unwrap_or}
+use Rattle.std.specs.Prelude.{◌≡◌, ◌++◌, ◌==◌, ℕ, Bool, true, List, if◌then◌else◌, slice_get, unwrap_or}
 use Rattle.g_graph.specs.declared.op.Origin.TheVariants.{Out}
 use Rattle.g_graph.specs.declared.steps.Rule.{Rule}
 use Rattle.g_graph.specs.declared.steps.Step.{Step}
@@ -7,18 +7,30 @@ use Rattle.g_graph.specs.Count.{node_values, nodes_values}
 use Rattle.g_graph.specs.Plain.{NodeTree, id_of, nodes_of}
 use Rattle.g_graph.specs.Splice.{joined_nodes}
 use Rattle.r_walk_def.specs.Walk.{Cursor, Walking, WrittenNodes, stepped}
+use Rattle.g_graph.specs.declared.op.Origin.{Origin}
 use Rattle.r_walk.specs.declared.moves.Moves.{Moves}
 use Rattle.r_walk.specs.declared.rule.New.{New}
+use Rattle.r_walk.specs.declared.uses.Uses.{Uses}
+use Rattle.r_walk.specs.declared.words.Words.{Words}
+use Rattle.r_walk.specs.Around.{AreWords, IsAround}
 use Rattle.r_walk.specs.Moves.{AreMoves, output_in}
 
 -- more steps stand at the end of the log
 abbrev pub HasGained : (before after : List Step) → Type 0
 HasGained before after = (added : List Step) × (after ≡ before ++ added)
 
+-- The tables of a walk are those of a cursor: the inputs that the region's arguments became, the outputs that moved, and
+-- what stands around, where the rule looks.
+pub record IsCursor (looks : Bool) (k : Cursor) (inputs : List Origin) (moves : Moves) (words : Words) (uses : Uses) : Type 0 where
+  pub inputs_are : k.inputs ≡ inputs
+  pub moved : AreMoves moves k.moved
+  pub around : IsAround looks words uses k.before k.uses
+
 -- what is written came after these nodes, its moves to those before it
-pub record IsWalked (k : Cursor) (s : WrittenNodes) (before after : List NodeTree) (moves : Moves) (now : Walking) : Type 0 where
+pub record IsWalked (looks : Bool) (k : Cursor) (s : WrittenNodes) (before after : List NodeTree) (moves : Moves) (words : Words) (now : Walking) : Type 0 where
   pub nodes : nodes_of after ≡ joined_nodes (nodes_of before) s.nodes
   pub moved : AreMoves moves (s.moved ++ k.moved)
+  pub words_are : looks ≡ true → AreWords words (joined_nodes k.before s.nodes)
   pub now_is : now ≡ s.now
 
 -- a step at a node is made

@@ -6,7 +6,11 @@
 mod counts;
 mod moves;
 mod rule;
+mod uses;
 mod walker;
+mod words;
 
-pub use rule::{New, WalkRule};
+pub use rule::{New, Opening, Said, WalkRule, becomes_or_stays};
+pub use uses::Uses;
 pub use walker::walk;
+pub use words::Words;

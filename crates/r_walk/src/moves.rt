@@ -35,24 +35,31 @@ impl Moves {
     }
 }
 
-impl Redirect for Moves {
-    ghost redirected = { origin_in };
+/// What origins of a region are now, whose arguments became these inputs.
+#[derive(Drop)]
+pub struct Now<'a> {
+    pub moves: &'a Moves,
+    pub inputs: &'a [Origin],
+}
+
+impl Redirect for Now<'_> {
+    ghost redirected = { λ it. origin_in it.moves.now it.inputs.now };
 
     fn redirect(&self, origin: Origin) -> Origin {
         match origin {
-            Origin::Arg(_) => origin,
-            Origin::Out { node, port } => match self.outputs.get(&node) {
-                Some(outputs) => output_at(outputs, port, origin),
+            Origin::Arg(index) => origin_at(self.inputs, index, origin),
+            Origin::Out { node, port } => match self.moves.outputs.get(&node) {
+                Some(outputs) => origin_at(outputs, port, origin),
                 None => origin,
             },
         }
     }
 }
 
-fn output_at(outputs: &[Origin], port: u32, otherwise: Origin) -> Origin
-    ensures { result ≡ unwrap_or (slice_get outputs.now port) otherwise }
+fn origin_at(origins: &[Origin], place: u32, otherwise: Origin) -> Origin
+    ensures { result ≡ unwrap_or (slice_get origins.now place) otherwise }
 {
-    match outputs.get(port as usize) {
+    match origins.get(place as usize) {
         Some(origin) => *origin,
         None => otherwise,
     }

@@ -11,7 +11,7 @@ use Rattle.g_graph.specs.Splice.{outputs_to_results, args_to_inputs, joined_node
 use Rattle.g_graph.specs.WellFormed.{IsWellFormed}
 use Rattle.g_mean.specs.Copies.{IsAmong}
 use Rattle.r_sweep_def.specs.Swept.{Logged, Change, swept_by}
-use Rattle.r_walk_def.specs.Walk.{Part, stays, becomes, opened, Asked, inputs_of_nodes, results_from, walked}
+use Rattle.r_walk_def.specs.Walk.{Part, stays, becomes, opened, Asked, is_in, inputs_of_nodes, results_from, walked}
 use Rattle.r_walk_def.specs.Context.{IsContext}
 
 -- an origin is an argument, or an output of one of these nodes
@@ -62,13 +62,14 @@ module _ (c : Change) (l : PlainLambda) (context : RegionTree → RegionTree) (a
   IsSaid (opened which inputs from) = Opens which inputs from
 
 -- What the rule makes of a well-formed lambda is well formed; it applies at no number that the lambda does not have; and
--- of each node it does what it says.
+-- of each node it does what it says, where the node's outputs have the uses that later nodes and the results make.
 pub record IsLocal (c : Change) (ask : Asked) : Type 0 where
   pub keeps : (l : PlainLambda) (n : ℕ) → IsWellFormed l → c.applies l n ≡ true → IsWellFormed (c.changed n l)
   pub absent : (l : PlainLambda) (n : ℕ) → (IsAmong n (region_ids l.body) → ⊥) → c.applies l n ≡ false
-  pub said : (l : PlainLambda) (context : RegionTree → RegionTree) (args : List Kind) (before : NodeTrees) (x : NodeTree) (after : NodeTrees) (results : List Origin) →
+  pub said : (l : PlainLambda) (context : RegionTree → RegionTree) (args : List Kind) (before : NodeTrees) (x : NodeTree) (after : NodeTrees) (results uses : List Origin) →
       IsContext context → IsWellFormed l → l.body ≡ context (region args (joined_nodes before (node_then x after)) results) →
-      IsSaid c l context args before x after results (ask (lambda_values l) l.next before (inputs_of_nodes after ++ results) x)
+      ((p : ℕ) → is_in uses (Out (id_of x) p) ≡ is_in (inputs_of_nodes after ++ results) (Out (id_of x) p)) →
+      IsSaid c l context args before x after results (ask (lambda_values l) l.next before uses x)
 
 -- ---- the law
 

@@ -1,6 +1,6 @@
 -- A walk of one rule over a lambda: it goes along the nodes in pre-order, writes each as it then is, and reads those after
 -- it as they were. What became of outputs is kept in a list.
-use Rattle.std.specs.Prelude.{ℕ, zero, suc, ◌+◌, ◌-◌, ◌==◌, if◌then◌else◌, List, [], ◌∷◌, ◌++◌, map, drop, slice_get, unwrap_or}
+use Rattle.std.specs.Prelude.{ℕ, zero, suc, ◌+◌, ◌-◌, ◌==◌, if◌then◌else◌, Bool, List, [], ◌∷◌, ◌++◌, map, drop, slice_get, unwrap_or}
 use Rattle.g_graph.specs.declared.op.Origin.{Origin}
 use Rattle.g_graph.specs.declared.op.Origin.TheVariants.{Arg, Out}
 use Rattle.g_graph.specs.declared.steps.Rule.{Rule}
@@ -8,8 +8,10 @@ use Rattle.g_graph.specs.declared.steps.Step.{Step}
 use Rattle.g_graph.specs.Plain.{RegionTree, region, NodeTree, node, NodeTrees, no_nodes, node_then, RegionTrees, no_regions, region_then, id_of}
 use Rattle.g_graph.specs.Count.{node_values, nodes_values}
 use Rattle.g_graph.specs.Program.{lambda_values}
-use Rattle.g_graph.specs.Replace.{node_redirected, nodes_redirected}
-use Rattle.g_graph.specs.Splice.{args_to_inputs, outputs_to_results, joined_nodes}
+use Rattle.g_graph.specs.Replace.{node_redirected}
+use Rattle.g_graph.specs.Scope.{same_origin}
+use Rattle.g_graph.specs.Splice.{args_to_inputs, joined_nodes}
+use Rattle.g_graph.specs.WellFormed.{some_of}
 use Rattle.r_sweep_def.specs.Swept.{Logged}
 
 -- ---- what a rule says of a node
@@ -22,10 +24,14 @@ pub data Part : Type 0 where
   becomes : (nodes : NodeTrees) → (outputs : List Origin) → (taken : ℕ) → Part
   opened : (which : ℕ) → (inputs : List Origin) → (from : ℕ) → Part
 
--- A rule is told how many values the lambda has now, its next number, the nodes written so far in the region, the origins
--- that later nodes of the region and its results read, and the node, all as they are now.
+-- A rule is told how many values the lambda has now, its next number, the nodes written so far in the region, the uses of
+-- outputs of the nodes that are still to be walked, and the node as it is now.
 abbrev pub Asked : Type 0
-Asked = (values next : ℕ) → (before : NodeTrees) → (later : List Origin) → NodeTree → Part
+Asked = (values next : ℕ) → (before : NodeTrees) → (uses : List Origin) → NodeTree → Part
+
+-- whether an origin is one of these
+abbrev pub is_in : List Origin → Origin → Bool
+is_in os o = some_of (same_origin o) os
 
 -- ---- what became of outputs
 
@@ -56,12 +62,12 @@ pub record Walking : Type 0 where
   pub next : ℕ
   pub steps : List Step
 
--- Where the walk stands in a region: the inputs that its arguments became, the nodes written so far, the origins that are
--- read later, and the outputs that moved, the latest first.
+-- Where the walk stands in a region: the inputs that its arguments became, the nodes written so far, what the region's nodes
+-- and results read, as it was before the walk, and the outputs that moved, the latest first.
 pub record Cursor : Type 0 where
   pub inputs : List Origin
   pub before : NodeTrees
-  pub later : List Origin
+  pub uses : List Origin
   pub moved : List Moved
 
 -- what is written for nodes, for a region and for regions; of nodes also which outputs moved, the latest first
@@ -94,17 +100,18 @@ unmoved ns w = record { nodes = ns; moved = []; now = w }
 abbrev pub both_written : (first second : WrittenNodes) → WrittenNodes
 both_written s t = record { nodes = joined_nodes s.nodes t.nodes; moved = t.moved ++ s.moved; now = t.now }
 
--- the cursor at a node, other nodes being between it and what is read later
-abbrev pub cursor_at : (others : NodeTrees) → Cursor → Cursor
-cursor_at others c = record c { later = inputs_of_nodes (nodes_redirected (origin_now c.moved c.inputs) others) ++ c.later }
-
 -- the cursor after a node for which this was written
 abbrev pub cursor_after : WrittenNodes → Cursor → Cursor
-cursor_after s c = record c { before = joined_nodes c.before s.nodes; later = map (origin_now s.moved []) c.later; moved = s.moved ++ c.moved }
+cursor_after s c = record c { before = joined_nodes c.before s.nodes; moved = s.moved ++ c.moved }
 
--- the cursor at the nodes of an opened region that gives these results
-abbrev pub cursor_in : (node : ℕ) → (inputs : List Origin) → (from : ℕ) → (results : List Origin) → Cursor → Cursor
-cursor_in n inputs from results c = record c { inputs = inputs; later = map (outputs_to_results n (results_from from inputs results)) c.later }
+-- of the results that an opened region gives for the outputs of its node from a port on, those whose output is used
+abbrev pub results_used : (uses : List Origin) → (node port : ℕ) → (results : List Origin) → List Origin
+results_used uses n p [] = []
+results_used uses n p (o ∷ os) = if is_in uses (Out n p) then o ∷ results_used uses n (suc p) os else results_used uses n (suc p) os
+
+-- the cursor at the nodes of an opened region of a node
+abbrev pub cursor_in : (node : ℕ) → (inputs : List Origin) → (from : ℕ) → (nodes : NodeTrees) → (results : List Origin) → Cursor → Cursor
+cursor_in n inputs from nodes results c = record c { inputs = inputs; uses = inputs_of_nodes nodes ++ results_used c.uses n 0 (drop from results) }
 
 -- the nodes of an opened region, and what became of the outputs of its node
 abbrev pub with_outputs : (node : ℕ) → (from : ℕ) → (results : List Origin) → Cursor → WrittenNodes → WrittenNodes
@@ -128,7 +135,7 @@ module _ (rule : Rule) where
     abbrev mutual
       pub walk_region : RegionTree → Walking → WrittenRegion
       walk_region (region args nodes results) w =
-          let t : WrittenNodes = walk_nodes nodes (record { inputs = []; before = no_nodes; later = results; moved = [] }) w in
+          let t : WrittenNodes = walk_nodes nodes (record { inputs = []; before = no_nodes; uses = inputs_of_nodes nodes ++ results; moved = [] }) w in
           record { region = region args t.nodes (map (origin_now t.moved []) results); now = t.now }
 
       pub walk_regions : RegionTrees → Walking → WrittenRegions
@@ -141,13 +148,13 @@ module _ (rule : Rule) where
       pub walk_nodes : NodeTrees → Cursor → Walking → WrittenNodes
       walk_nodes no_nodes c w = unmoved no_nodes w
       walk_nodes (node_then x xs) c w =
-          let s : WrittenNodes = walk_node x (cursor_at xs c) w in
+          let s : WrittenNodes = walk_node x c w in
           both_written s (walk_nodes xs (cursor_after s c) s.now)
 
       pub walk_node : NodeTree → Cursor → Walking → WrittenNodes
       walk_node (node id op ins rs) c w =
           let x : NodeTree = node_now c (node id op ins rs) in
-          part_written x (walk_regions rs) (λ which inputs from. open_at rs id (node_values x) which inputs from c w) w (ask w.values w.next c.before c.later x)
+          part_written x (walk_regions rs) (λ which inputs from. open_at rs id (node_values x) which inputs from c w) w (ask w.values w.next c.before c.uses x)
 
       -- a region of node n, which had so many values
       pub open_at : RegionTrees → (n values which : ℕ) → (inputs : List Origin) → (from : ℕ) → Cursor → Walking → WrittenNodes
@@ -157,7 +164,7 @@ module _ (rule : Rule) where
 
       pub open_region : RegionTree → (n values : ℕ) → (inputs : List Origin) → (from : ℕ) → Cursor → Walking → WrittenNodes
       open_region (region args nodes results) n values inputs from c w =
-          let d : Cursor = cursor_in n inputs from results c in
+          let d : Cursor = cursor_in n inputs from nodes results c in
           with_outputs n from results d (walk_nodes nodes d (stepped rule n values (nodes_values nodes) 0 w))
 
     -- the lambda and the log after a walk

@@ -1,4 +1,5 @@
 -- A walk is a sweep: by recursion over the old tree, where what is written stands before the cursor.
+use Rattle.std.specs.Prelude.{◌||◌}
 use Rattle.std.proofs.Common.{◌≡◌, ℕ, zero, suc, ◌+◌, ◌-◌, ◌<◌, ◌≤◌, ◌==◌, ◌⊎◌, Bool, true, false, cond, if◌then◌else◌, List, [], ◌∷◌, ◌++◌, map, drop, length, slice_get, Option, None, Some, option_map, unwrap_or, refl, sym, ap, ap₂, subst, subst₂, ◌∙◌, inl, inr, arith}
 use Rattle.std.proofs.lemmas.List.{append_assoc, append-nil, map-append, length-map}
 use Rattle.std.proofs.lemmas.List.Sums.{fold-append}
@@ -22,15 +23,16 @@ use Rattle.g_mean.specs.Edits.{IsPartOf}
 use Rattle.g_mean.proofs.lemmas.Copies.{among-left, among-right, among-split}
 use Rattle.g_mean.proofs.lemmas.Edits.{distinct-split}
 use Rattle.g_mean.proofs.lemmas.Holds.{distinct-apart}
-use Rattle.g_mean.proofs.lemmas.Inside.{regions-closed}
-use Rattle.g_mean.proofs.lemmas.Splices.{known-among, all-among}
+use Rattle.g_mean.proofs.lemmas.Inside.{inputs-read, regions-closed}
+use Rattle.g_mean.proofs.lemmas.Splices.{joined-known, joined-read, known-among, all-among}
 use Rattle.r_edit.proofs.lemmas.Numbers.{below}
 use Rattle.r_sweep_def.specs.Swept.{Logged, Change, tried_by, swept_by}
 use Rattle.r_walk_def.specs.Context.{joined_regions, IsContext}
 use Rattle.r_walk_def.specs.Laws.{IsOutputAmong, AreOutputsAmong, region_at, Becomes, Opens, IsSaid, IsLocal, WalksAreSweeps}
-use Rattle.r_walk_def.specs.Walk.{Part, stays, becomes, opened, Asked, output_now, origin_now, inputs_of_nodes, Walking, Cursor, WrittenNodes, WrittenRegion, WrittenRegions, stepped, results_from, unmoved, both_written, cursor_at, cursor_after, cursor_in, with_outputs, node_now, part_written, walk_region, walk_regions, walk_nodes, walk_node, open_at, open_region, walked}
+use Rattle.r_walk_def.specs.Walk.{Part, stays, becomes, opened, Asked, output_now, origin_now, inputs_of_nodes, Walking, Cursor, WrittenNodes, WrittenRegion, WrittenRegions, stepped, results_from, unmoved, both_written, is_in, results_used, cursor_after, cursor_in, with_outputs, node_now, part_written, walk_region, walk_regions, walk_nodes, walk_node, open_at, open_region, walked}
 use Rattle.r_walk_laws.proofs.lemmas.Contexts.{body_context, whole_part, inner_context}
 use Rattle.r_walk_laws.proofs.lemmas.Moves.{AreOf, of_more, of_both, IsAhead, ahead_less, nothing_moved, argument_now, not_moved, none_moved, both_moves, origins_twice, nodes_twice, nodes_redirected-joined, inputs-joined, inputs-redirected}
+use Rattle.r_walk_laws.proofs.lemmas.Uses.{in_append, in_moved, not_read, nodes_not_read, used_now}
 
 -- ---- lambdas with another body
 
@@ -38,6 +40,13 @@ with_same : (l : PlainLambda) (body : RegionTree) (next : ℕ) → l.body ≡ bo
 with_same l body next e d = λ i. record l { body = e i; next = sym d i }
 
 -- ---- numbers of a region
+
+among_known : (before : NodeTrees) (n : ℕ) → IsAmong n (known_after [] before) → IsAmong n (nodes_ids before)
+among_known before n h = by (known-among [] before n h)
+  where
+    by : IsAmong n [] ⊎ IsAmong n (nodes_ids before) → IsAmong n (nodes_ids before)
+    by (inl k) = absurd k
+    by (inr k) = k
 
 module _ (context : RegionTree → RegionTree) (is : IsContext context) (args : List Kind) (results : List Origin) where
   part_here : (l : PlainLambda) → IsWellFormed l → (nodes : NodeTrees) → l.body ≡ context (region args nodes results) → IsPartOf l (region args nodes results)
@@ -56,6 +65,16 @@ module _ (context : RegionTree → RegionTree) (is : IsContext context) (args : 
   whole before here after =
       is.numbers (region args (joined_nodes before (joined_nodes here after)) results)
       ∙ ap (λ ns. is.first ++ ns ++ is.last) (nodes_ids-joined before (joined_nodes here after) ∙ ap (λ ns. nodes_ids before ++ ns) (nodes_ids-joined here after))
+
+  -- an output of a node that does not stand before a node is none of its inputs
+  not_by_itself : (l : PlainLambda) → IsWellFormed l → (before : NodeTrees) (y : NodeTree) (after : NodeTrees) → l.body ≡ context (region args (joined_nodes before (node_then y after)) results) →
+      (n p : ℕ) → (IsAmong n (nodes_ids before) → ⊥) → (os : List Origin) → is_in (inputs_of_nodes (node_then y no_nodes) ++ os) (Out n p) ≡ is_in os (Out n p)
+  not_by_itself l well before (node id op ins rs) after e n p h os =
+      in_append (ins ++ []) os (Out n p)
+      ∙ ap (λ t. t || is_in os (Out n p))
+      (ap (λ is. is_in is (Out n p)) (append-nil ins)
+      ∙ not_read (is_argument (length args)) (known_after [] before) n p refl (λ k. h (among_known before n k)) ins
+      (inputs-read l args before id op ins rs after results (part_here l well (joined_nodes before (node_then (node id op ins rs) after)) e)))
 
 -- a number of the middle of a list whose numbers are unique is in no other part of it
 module _ (bs hs zs : List ℕ) (unique : distinct (bs ++ (hs ++ zs)) ≡ true) (n : ℕ) (h : IsAmong n hs) where
@@ -147,13 +166,14 @@ lambda_with context args before after results t l =
       next = t.now.next;
     }
 
--- A well-formed lambda, in a region of which these nodes stand here, whose numbers are to be swept.
+-- A well-formed lambda, in a region of which these nodes stand here, whose numbers are to be swept. Their outputs have the
+-- uses that they have now.
 pub record IsAt (context : RegionTree → RegionTree) (args : List Kind) (k : Cursor) (ids : List ℕ) (here after : NodeTrees) (results : List Origin) (w : Walking) (l : PlainLambda) : Type 0 where
   pub well : IsWellFormed l
   pub body : l.body ≡ context (region args (joined_nodes k.before (joined_nodes here after)) results)
   pub values : w.values ≡ lambda_values l
   pub next : w.next ≡ l.next
-  pub later : k.later ≡ inputs_of_nodes after ++ results
+  pub uses : (n p : ℕ) → IsAmong n ids → is_in k.uses (Out n p) ≡ is_in (inputs_of_nodes here ++ (inputs_of_nodes after ++ results)) (Out n p)
   pub ahead : IsAhead k.moved k.inputs ids
   pub numbers : nodes_ids here ≡ ids
 
@@ -195,21 +215,29 @@ module _ (c : Change) (context : RegionTree → RegionTree) (is : IsContext cont
       own : (y : NodeTree) → node_ids (node_now k y) ≡ node_ids y
       own (node id op inputs rs) = refl
 
-  at_node : IsAt context args (cursor_at xs k) (node_ids x) (node_then (node_now k x) no_nodes) (joined_nodes (nodes_redirected (origin_now k.moved k.inputs) xs) after) results w l
+  -- the inputs of the node, of the others, and what is read after them
+  inputs-apart : inputs_of_nodes (nodes_redirected (origin_now k.moved k.inputs) (node_then x xs)) ++ (inputs_of_nodes after ++ results)
+      ≡ inputs_of_nodes (node_then (node_now k x) no_nodes) ++ (inputs_of_nodes (nodes_redirected (origin_now k.moved k.inputs) xs) ++ (inputs_of_nodes after ++ results))
+  inputs-apart =
+      ap (λ os. os ++ (inputs_of_nodes after ++ results)) (inputs-joined (node_then (node_now k x) no_nodes) (nodes_redirected (origin_now k.moved k.inputs) xs))
+      ∙ append_assoc (inputs_of_nodes (node_then (node_now k x) no_nodes)) (inputs_of_nodes (nodes_redirected (origin_now k.moved k.inputs) xs)) (inputs_of_nodes after ++ results)
+
+  at_node : IsAt context args k (node_ids x) (node_then (node_now k x) no_nodes) (joined_nodes (nodes_redirected (origin_now k.moved k.inputs) xs) after) results w l
   at_node =
       record {
         well = at.well;
         body = at.body;
         values = at.values;
         next = at.next;
-        later = ap (λ os. inputs_of_nodes (nodes_redirected (origin_now k.moved k.inputs) xs) ++ os) at.later
-            ∙ sym (append_assoc (inputs_of_nodes (nodes_redirected (origin_now k.moved k.inputs) xs)) (inputs_of_nodes after) results)
-            ∙ ap (λ os. os ++ results) (sym (inputs-joined (nodes_redirected (origin_now k.moved k.inputs) xs) after));
+        uses = λ n p h. at.uses n p (among-left n (node_ids x) (nodes_ids xs) h) ∙ ap (λ os. is_in os (Out n p)) inputs-apart
+            ∙ ap (λ os. is_in (inputs_of_nodes (node_then (node_now k x) no_nodes) ++ os) (Out n p))
+            (sym (append_assoc (inputs_of_nodes (nodes_redirected (origin_now k.moved k.inputs) xs)) (inputs_of_nodes after) results)
+            ∙ ap (λ os. os ++ results) (sym (inputs-joined (nodes_redirected (origin_now k.moved k.inputs) xs) after)));
         ahead = ahead_less k.moved k.inputs (node_ids x ++ nodes_ids xs) (node_ids x) (λ n h. among-left n (node_ids x) (nodes_ids xs) h) at.ahead;
         numbers = append-nil (node_ids (node_now k x)) ∙ ids_now;
       }
 
-  module _ (s : WrittenNodes) (done : IsWritten c context args (cursor_at xs k) (node_ids x) (joined_nodes (nodes_redirected (origin_now k.moved k.inputs) xs) after) results w l s) where
+  module _ (s : WrittenNodes) (done : IsWritten c context args k (node_ids x) (joined_nodes (nodes_redirected (origin_now k.moved k.inputs) xs) after) results w l s) where
     abbrev now : Origin → Origin
     now = origin_now s.moved []
 
@@ -278,6 +306,16 @@ module _ (c : Change) (context : RegionTree → RegionTree) (is : IsContext cont
         (nodes_twice (origin_now k.moved k.inputs) (origin_now s.moved []) (origin_now (s.moved ++ k.moved) k.inputs) both_now xs))
         ∙ sym (joined_assoc k.before s.nodes (joined_nodes (nodes_redirected (origin_now (s.moved ++ k.moved) k.inputs) xs) (nodes_redirected (origin_now s.moved []) after))))
 
+    inputs-1 : map (origin_now s.moved []) (inputs_of_nodes (nodes_redirected (origin_now k.moved k.inputs) xs) ++ (inputs_of_nodes after ++ results))
+        ≡ inputs_of_nodes (nodes_redirected (origin_now (s.moved ++ k.moved) k.inputs) xs) ++ (inputs_of_nodes (nodes_redirected (origin_now s.moved []) after) ++ map (origin_now s.moved []) results)
+    inputs-1 =
+        map-append (origin_now s.moved []) (inputs_of_nodes (nodes_redirected (origin_now k.moved k.inputs) xs)) (inputs_of_nodes after ++ results)
+        ∙ ap₂ (λ os us. os ++ us)
+        (sym (inputs-redirected (origin_now s.moved []) (nodes_redirected (origin_now k.moved k.inputs) xs))
+        ∙ ap inputs_of_nodes (nodes_twice (origin_now k.moved k.inputs) (origin_now s.moved []) (origin_now (s.moved ++ k.moved) k.inputs) both_now xs))
+        (map-append (origin_now s.moved []) (inputs_of_nodes after) results
+        ∙ ap (λ os. os ++ map (origin_now s.moved []) results) (sym (inputs-redirected (origin_now s.moved []) after)))
+
     at_others : IsAt context args (cursor_after s k) (nodes_ids xs) (nodes_redirected (origin_now (s.moved ++ k.moved) k.inputs) xs) (nodes_redirected (origin_now s.moved []) after)
         (map (origin_now s.moved []) results) s.now l1
     at_others =
@@ -286,8 +324,12 @@ module _ (c : Change) (context : RegionTree → RegionTree) (is : IsContext cont
           body = body-1;
           values = done.sweep.values;
           next = refl;
-          later = ap (map (origin_now s.moved [])) at.later ∙ map-append (origin_now s.moved []) (inputs_of_nodes after) results
-              ∙ ap (λ os. os ++ map (origin_now s.moved []) results) (sym (inputs-redirected (origin_now s.moved []) after));
+          uses = λ n p h. at.uses n p (among-right n (node_ids x) (nodes_ids xs) h) ∙ ap (λ os. is_in os (Out n p)) inputs-apart
+              ∙ not_by_itself context is args results l at.well k.before (node_now k x) (joined_nodes (nodes_redirected (origin_now k.moved k.inputs) xs) after) at.body n p (other_before n h)
+              (inputs_of_nodes (nodes_redirected (origin_now k.moved k.inputs) xs) ++ (inputs_of_nodes after ++ results))
+              ∙ sym (in_moved n p (origin_now s.moved []) (λ o e. ahead-s.apart o n p h e) (ahead-s.fresh n p h)
+              (inputs_of_nodes (nodes_redirected (origin_now k.moved k.inputs) xs) ++ (inputs_of_nodes after ++ results)))
+              ∙ ap (λ os. is_in os (Out n p)) inputs-1;
           ahead = ahead-1;
           numbers = nodes_ids-redirected (origin_now (s.moved ++ k.moved) k.inputs) xs;
         }
@@ -518,7 +560,7 @@ module _ (c : Change) (ask : Asked) (local : IsLocal c ask) where
       now-open = outputs_to_results id given
 
       abbrev inner : Cursor
-      inner = cursor_in id inputs from said.gives k
+      inner = cursor_in id inputs from said.nodes said.gives k
 
       abbrev w-open : Walking
       w-open = stepped c.rule id (node_values (node id op ins rs)) (nodes_values said.nodes) 0 w
@@ -653,6 +695,51 @@ module _ (c : Change) (ask : Asked) (local : IsLocal c ask) where
             nodes_values-redirected now-open after,
           )
 
+      -- what the nodes after it and the results read is no output of the region's nodes
+      not-after : (n p : ℕ) → IsAmong n (nodes_ids said.nodes) → is_in (inputs_of_nodes after ++ results) (Out n p) ≡ false
+      not-after n p h =
+          in_append (inputs_of_nodes after) results (Out n p)
+          ∙ ap₂ (λ s t. s || t)
+          (nodes_not_read (is_argument (length args)) (id ∷ known_after [] k.before) n p refl not-known after
+          (not_after (nodes_ids k.before) (id ∷ regions_ids rs) (nodes_ids after) unique-open n (within n h))
+          (joined-read (is_argument (length args)) [] k.before (node_then (node id op ins rs) after) part-open.closed.0).1.1)
+          (not_read (is_argument (length args)) (known_after [] (joined_nodes k.before (node_then (node id op ins rs) after))) n p refl not-at-end results part-open.closed.1)
+        where
+          not-known : IsAmong n (id ∷ known_after [] k.before) → ⊥
+          not-known (inl e) = own_number (subst (λ z. IsAmong z (nodes_ids said.nodes)) e h)
+          not-known (inr q) = not_before (nodes_ids k.before) (id ∷ regions_ids rs) (nodes_ids after) unique-open n (within n h) (among_known k.before n q)
+
+          by : IsAmong n (id ∷ known_after [] k.before) ⊎ IsAmong n (nodes_ids after) → ⊥
+          by (inl q) = not-known q
+          by (inr q) = not_after (nodes_ids k.before) (id ∷ regions_ids rs) (nodes_ids after) unique-open n (within n h) q
+
+          not-at-end : IsAmong n (known_after [] (joined_nodes k.before (node_then (node id op ins rs) after))) → ⊥
+          not-at-end q =
+              by (known-among (id ∷ known_after [] k.before) after n (subst (IsAmong n) (joined-known [] k.before (node_then (node id op ins rs) after)) q))
+
+      -- the node's own outputs have the uses that they have after it
+      own-uses : (p : ℕ) → is_in k.uses (Out id p) ≡ is_in (inputs_of_nodes after ++ results) (Out id p)
+      own-uses p =
+          at.uses id p (inl refl)
+          ∙ not_by_itself context is args results l at.well k.before (node id op ins rs) after at.body id p
+          (not_before (nodes_ids k.before) (id ∷ regions_ids rs) (nodes_ids after) unique-open id (inl refl)) (inputs_of_nodes after ++ results)
+
+      uses-open : (n p : ℕ) → IsAmong n (nodes_ids said.nodes) →
+          is_in (inputs_of_nodes said.nodes ++ results_used k.uses id 0 (drop from said.gives)) (Out n p)
+          ≡ is_in (inputs_of_nodes (nodes_redirected (origin_now k.moved inputs) said.nodes) ++ (inputs_of_nodes after-open ++ results-open)) (Out n p)
+      uses-open n p h =
+          in_append (inputs_of_nodes said.nodes) (results_used k.uses id 0 (drop from said.gives)) (Out n p)
+          ∙ ap₂ (λ s t. s || t)
+          (sym (in_moved n p (origin_now k.moved inputs) (λ o e. ahead-open.apart o n p h e) (ahead-open.fresh n p h) (inputs_of_nodes said.nodes))
+          ∙ ap (λ os. is_in os (Out n p)) (sym (inputs-redirected (origin_now k.moved inputs) said.nodes)))
+          (used_now id inputs (drop from said.gives) n p (λ e. own_number (subst (λ z. IsAmong z (nodes_ids said.nodes)) e h)) args-apart k.uses (inputs_of_nodes after ++ results) (not-after n p h) own-uses
+          ∙ ap (λ os. is_in os (Out n p)) (map-append now-open (inputs_of_nodes after) results ∙ ap (λ os. os ++ results-open) (sym (inputs-redirected now-open after))))
+          ∙ sym (in_append (inputs_of_nodes (nodes_redirected (origin_now k.moved inputs) said.nodes)) (inputs_of_nodes after-open ++ results-open) (Out n p))
+        where
+          args-apart : (a : Origin) → args_to_inputs inputs a ≡ Out n p → a ≡ Out n p
+          args-apart (Arg j) e = apart-open (Arg j) n p h e
+          args-apart (Out m q) e = e
+
       at-open : IsAt context args inner (nodes_ids said.nodes) (nodes_redirected (origin_now k.moved inputs) said.nodes) after-open results-open w-open l-open
       at-open =
           record {
@@ -660,7 +747,7 @@ module _ (c : Change) (ask : Asked) (local : IsLocal c ask) where
             body = body-open;
             values = values-open;
             next = omega (arith, at.next, ap (λ z. z.next) said.changed);
-            later = ap (map now-open) at.later ∙ map-append now-open (inputs_of_nodes after) results ∙ ap (λ os. os ++ results-open) (sym (inputs-redirected now-open after));
+            uses = uses-open;
             ahead = ahead-open;
             numbers = nodes_ids-redirected (origin_now k.moved inputs) said.nodes;
           }
@@ -890,12 +977,19 @@ module _ (c : Change) (ask : Asked) (local : IsLocal c ask) where
 
   node_is : (id : ℕ) (op : Op) (ins : List Origin) (rs : RegionTrees) → RegionsAre rs → InnerAre rs → NodeIs (node id op ins rs)
   node_is id op ins rs h inner context is args k after results w l at =
-      by (ask w.values w.next k.before k.later x)
-      (subst (IsSaid c l context args k.before x after results) (λ i. ask (sym at.values i) (sym at.next i) k.before (sym at.later i) x)
-      (local.said l context args k.before x after results is at.well at.body))
+      by (ask w.values w.next k.before k.uses x)
+      (subst (IsSaid c l context args k.before x after results) (λ i. ask (sym at.values i) (sym at.next i) k.before k.uses x)
+      (local.said l context args k.before x after results k.uses is at.well at.body own-uses))
     where
       x : NodeTree
       x = node id op (map (origin_now k.moved k.inputs) ins) rs
+
+      not_there : IsAmong id (nodes_ids k.before) → ⊥
+      not_there =
+          not_before (nodes_ids k.before) ((id ∷ regions_ids rs) ++ []) (nodes_ids after) (three context is args results l at.well k.before (node_then x no_nodes) after at.body) id (inl refl)
+
+      own-uses : (p : ℕ) → is_in k.uses (Out id p) ≡ is_in (inputs_of_nodes after ++ results) (Out id p)
+      own-uses p = at.uses id p (inl refl) ∙ not_by_itself context is args results l at.well k.before x after at.body id p not_there (inputs_of_nodes after ++ results)
 
       by : (p : Part) → IsSaid c l context args k.before x after results p →
           IsWritten c context args k (id ∷ regions_ids rs) after results w l
@@ -913,7 +1007,7 @@ module _ (c : Change) (ask : Asked) (local : IsLocal c ask) where
       subst₂ (λ ns z. IsSweep c (nodes_ids nodes) ns l w z t.now) refl same (h context is args k no_nodes results w l at_first).sweep
     where
       k : Cursor
-      k = record { inputs = []; before = no_nodes; later = results; moved = [] }
+      k = record { inputs = []; before = no_nodes; uses = inputs_of_nodes nodes ++ results; moved = [] }
 
       t : WrittenNodes
       t = walk_nodes c.rule ask nodes k w
@@ -925,7 +1019,7 @@ module _ (c : Change) (ask : Asked) (local : IsLocal c ask) where
             body = at.is ∙ ap (λ ns. context (region args ns results)) (sym (joined_none (nodes_redirected (origin_now [] []) nodes) ∙ nodes_unmoved (origin_now [] []) nothing_moved nodes));
             values = at.values;
             next = at.next;
-            later = refl;
+            uses = λ n p i. ap (λ ns. is_in (inputs_of_nodes ns ++ results) (Out n p)) (sym (nodes_unmoved (origin_now [] []) nothing_moved nodes));
             ahead = record { fresh = λ n p i. refl; apart = λ o n p i e. sym (nothing_moved o) ∙ e };
             numbers = nodes_ids-redirected (origin_now [] []) nodes;
           }
@@ -984,10 +1078,10 @@ module _ (c : Change) (ask : Asked) (local : IsLocal c ask) where
 
   nodes_are : (x : NodeTree) (xs : NodeTrees) → NodeIs x → NodesAre xs → NodesAre (node_then x xs)
   nodes_are x xs h g context is args k after results w l at =
-      let s : WrittenNodes = walk_node c.rule ask x (cursor_at xs k) w in
+      let s : WrittenNodes = walk_node c.rule ask x k w in
       let rest : NodeTrees = joined_nodes (nodes_redirected (origin_now k.moved k.inputs) xs) after in
-      let done : IsWritten c context args (cursor_at xs k) (node_ids x) rest results w l s =
-      h context is args (cursor_at xs k) rest results w l (at_node c context is args k x xs after results w l at) in
+      let done : IsWritten c context args k (node_ids x) rest results w l s =
+      h context is args k rest results w l (at_node c context is args k x xs after results w l at) in
       both_are c context is args k x xs after results w l at s done (walk_nodes c.rule ask xs (cursor_after s k) s.now)
       (g context is args (cursor_after s k) (nodes_redirected (origin_now s.moved []) after) (map (origin_now s.moved []) results) s.now
       (lambda_with context args k.before rest results s l) (at_others c context is args k x xs after results w l at s done))

@@ -1,21 +1,31 @@
 -- What a walk makes is what the sweep makes, and well formed.
 use Rattle.std.proofs.Common.{map, refl}
 use Rattle.std.specs.Arc.{arc_value}
-use Rattle.g_graph.specs.declared.steps.Rule.TheVariants.{Unroll, Invert}
+use Rattle.g_graph.specs.declared.steps.Rule.TheVariants.{Fold, Unroll, Invert}
 use Rattle.g_graph.specs.Ids.{region_ids}
 use Rattle.g_pass_def.specs.Answers.{lambdas_of}
 use Rattle.g_pass.proofs.FastSweeps.{of_rule_alone, of_calls, walk_keeps}
 use Rattle.g_pass.proofs.fast.walked.Goals as goal
 
+pub returns-in-Fold-clause-ok : goal.returns-in-Fold-clause-ok
+returns-in-Fold-clause-ok c =
+    of_rule_alone c.sweep_fast.result c.args.rule Fold (lambdas_of (map arc_value c.args.callees.now)) c.args.lambda c.args.log.now.items c.sweep_fast.new.log.items c.in-Fold.is
+    (λ e. absurd cc) c.sweep_fast.ensures.ok
+
+pub returns-in-Fold-clause-kept : goal.returns-in-Fold-clause-kept
+returns-in-Fold-clause-kept c =
+    walk_keeps c.sweep_fast.result Fold refl c.fast_rules_keep.ensures (region_ids c.args.lambda.body) c.args.lambda c.args.log.now.items c.sweep_fast.new.log.items c.requires.well_formed
+    c.sweep_fast.ensures.ok
+
 pub returns-in-Unroll-clause-ok : goal.returns-in-Unroll-clause-ok
 returns-in-Unroll-clause-ok c =
-    of_rule_alone c.sweep_fast.result c.args.rule Unroll (lambdas_of (map arc_value c.args.callees.now)) c.args.lambda c.args.log.now.items c.sweep_fast.new.log.items c.in-Unroll.is
-    (λ e. absurd cc) c.sweep_fast.ensures.ok
+    of_rule_alone c.sweep_fast-in-Unroll.result c.args.rule Unroll (lambdas_of (map arc_value c.args.callees.now)) c.args.lambda c.args.log.now.items c.sweep_fast-in-Unroll.new.log.items c.in-Unroll.is
+    (λ e. absurd cc) c.sweep_fast-in-Unroll.ensures.ok
 
 pub returns-in-Unroll-clause-kept : goal.returns-in-Unroll-clause-kept
 returns-in-Unroll-clause-kept c =
-    walk_keeps c.sweep_fast.result Unroll refl c.fast_rules_keep.ensures (region_ids c.args.lambda.body) c.args.lambda c.args.log.now.items c.sweep_fast.new.log.items c.requires.well_formed
-    c.sweep_fast.ensures.ok
+    walk_keeps c.sweep_fast-in-Unroll.result Unroll refl c.fast_rules_keep.ensures (region_ids c.args.lambda.body) c.args.lambda c.args.log.now.items c.sweep_fast-in-Unroll.new.log.items c.requires.well_formed
+    c.sweep_fast-in-Unroll.ensures.ok
 
 pub returns-in-Invert-clause-ok : goal.returns-in-Invert-clause-ok
 returns-in-Invert-clause-ok c =

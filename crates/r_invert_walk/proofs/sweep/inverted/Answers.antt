@@ -2,7 +2,7 @@
 use Rattle.std.proofs.Common.{sym, ◌∙◌}
 use Rattle.g_graph.specs.Plain.{regions_of}
 use Rattle.r_invert_walk.proofs.Asked.{few_made}
-use Rattle.r_invert_walk.proofs.sweep.InvertingWalkRule.ask.Goals as goal
+use Rattle.r_invert_walk.proofs.sweep.inverted.Goals as goal
 
 pub new_of-requires : goal.new_of-requires
 new_of-requires c = record {

@@ -1,0 +1,4 @@
+//! Laws of folding in a walk. Nothing in it runs.
+#![tactic(auto)]
+
+pub mod laws;
