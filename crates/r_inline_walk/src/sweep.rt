@@ -102,6 +102,7 @@ impl WalkRule for Inlining<'_> {
 }
 
 // What comes in the place of a node with this op and these inputs, if it calls the callee.
+#[inline(never)]
 fn asked(
     alloc: Global,
     values: u64,

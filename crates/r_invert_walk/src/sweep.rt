@@ -76,6 +76,7 @@ impl WalkRule for Inverting {
 
 // What comes in the place of a node.
 #[tactic(auto, using(crate::proofs::Asked::sound_so, crate::proofs::Asked::made_so, crate::proofs::Asked::none_so))]
+#[inline(never)]
 fn inverted(
     alloc: Global,
     values: u64,

@@ -73,6 +73,7 @@ impl WalkRule for Unrolling {
 }
 
 // What comes in the place of a node.
+#[inline(never)]
 fn unrolled(
     alloc: Global,
     values: u64,

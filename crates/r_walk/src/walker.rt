@@ -93,14 +93,19 @@ struct Tables {
 }
 
 impl Tables {
-    fn new(alloc: Global) -> Tables
-        ensures moves { (n p : ℕ) → output_in result.moves n p ≡ Out n p }
-        ensures words { AreWords result.words no_nodes }
+    // On the heap, so that regions in each other take little of the stack.
+    #[inline(never)]
+    fn new(alloc: Global) -> Result<Box<Tables>, NoMemory>
+        ensures moves { IfOk result (λ tables. (n p : ℕ) → output_in tables.value.moves n p ≡ Out n p) }
+        ensures words { IfOk result (λ tables. AreWords tables.value.words no_nodes) }
     {
-        Tables {
-            moves: Moves::new(alloc),
-            words: Words::new(alloc),
-        }
+        Ok(Box::new(
+            alloc,
+            Tables {
+                moves: Moves::new(alloc),
+                words: Words::new(alloc),
+            },
+        )?)
     }
 }
 
@@ -120,7 +125,7 @@ fn walk_region<R: WalkRule>(
         (walking counts.old.values counts.old.next log.old.items)) }
     ensures gained { HasGained log.old.items log.new.items }
 {
-    let mut tables = Tables::new(alloc);
+    let mut tables = Tables::new(alloc)?;
     let uses = used_in(alloc, region, by)?;
     let mut nodes = Vec::with_capacity(alloc, region.nodes.len())?;
     walk_nodes(
@@ -256,6 +261,7 @@ fn walk_node<R: WalkRule>(
 
 // A step: the nodes of a region of the node come in its place, and are walked.
 #[cycle(walk)]
+#[inline(never)]
 fn open<R: WalkRule>(
     alloc: Global,
     node: &Node,
@@ -305,18 +311,21 @@ fn open<R: WalkRule>(
 }
 
 // What the region uses, where the rule looks at it.
-fn used_in<R: WalkRule>(alloc: Global, region: &Region, by: &R) -> Result<Uses, NoMemory>
+#[inline(never)]
+fn used_in<R: WalkRule>(alloc: Global, region: &Region, by: &R) -> Result<Box<Uses>, NoMemory>
     ensures { IfOk result (λ uses. R.looks by.now ≡ true →
-        AreUses uses (inputs_of_nodes (nodes_in region.now) ++ results_of region.now)) }
+        AreUses uses.value (inputs_of_nodes (nodes_in region.now) ++ results_of region.now)) }
 {
-    if by.looks() {
-        uses_of(alloc, region)
+    let uses = if by.looks() {
+        uses_of(alloc, region)?
     } else {
-        Ok(Uses::new(alloc))
-    }
+        Uses::new(alloc)
+    };
+    Ok(Box::new(alloc, uses)?)
 }
 
 // What a region uses that comes in the place of a node, where the rule looks at it.
+#[inline(never)]
 fn used_in_opened<R: WalkRule>(
     alloc: Global,
     region: &Region,
@@ -324,15 +333,16 @@ fn used_in_opened<R: WalkRule>(
     from: usize,
     outer: &Uses,
     by: &R,
-) -> Result<Uses, NoMemory>
+) -> Result<Box<Uses>, NoMemory>
     ensures { IfOk result (λ uses. R.looks by.now ≡ true → (os : List Origin) → AreUses outer.now os →
-        AreUses uses (inputs_of_nodes (nodes_in region.now) ++ results_used os node 0 (drop from (results_of region.now)))) }
+        AreUses uses.value (inputs_of_nodes (nodes_in region.now) ++ results_used os node 0 (drop from (results_of region.now)))) }
 {
-    if by.looks() {
-        uses_of_opened(alloc, region, node, from, outer)
+    let uses = if by.looks() {
+        uses_of_opened(alloc, region, node, from, outer)?
     } else {
-        Ok(Uses::new(alloc))
-    }
+        Uses::new(alloc)
+    };
+    Ok(Box::new(alloc, uses)?)
 }
 
 // The node's inputs as they are now.
@@ -394,6 +404,7 @@ fn note_words<R: WalkRule>(by: &R, nodes: &[Node], words: &mut Words) -> Result<
 }
 
 // A step: these come in the place of the node.
+#[inline(never)]
 fn step<R: WalkRule>(
     node: &Node,
     by: &R,

@@ -1,6 +1,6 @@
 //! The words of the constants that were written.
 
-ghost use Rattle.std.specs.Prelude.{◌≡◌, ℕ, OnOk, None};
+ghost use Rattle.std.specs.Prelude.{◌≡◌, OnOk, None};
 ghost use Rattle.g_graph.specs.Nodes.{constant};
 ghost use Rattle.g_graph.specs.Plain.{NodeTrees, nodes_of, no_nodes, node_then};
 ghost use Rattle.g_graph.specs.Splice.{joined_nodes};

@@ -228,18 +228,19 @@ open-returns-clause-ok g t c =
     c.in_ok-step.ensures.counted c.in_ok-step.ensures.fits c.in_ok-push.ensures.items in
     let given : c.in_ok-outputs.outputs.items ≡ map (origin_in moves it.inputs.items) (drop it.from r.results.items) =
     c.in_ok-outputs.ensures
-    ∙ ap₂ (λ os xs. map (origin_in moves os) xs) c.deref-7.ensures.value (c.from_on-gives.ensures ∙ ap (λ xs. drop it.from xs) c.deref-6.ensures.value) in
+    ∙ ap₂ (λ os xs. map (origin_in moves os) xs) c.deref-8.ensures.value (c.from_on-gives.ensures ∙ ap (λ xs. drop it.from xs) c.deref-7.ensures.value) in
     on_ok c.note.result _ _
     (λ noted k inputs is.
     let d = cursor_in x.id it.inputs.items it.from nodes r.results.items k in
-    let at : IsCursor looks d it.inputs.items c.args.tables.now.moves c.args.tables.now.words c.in_ok-inner.inner =
-    inner_cursor rule ask x.id values it.inputs.items it.from k w looks r.args.items nodes r.results.items inputs c.args.tables.now.moves c.args.tables.now.words c.args.uses.now c.in_ok-inner.inner is
-    (λ l os h. subst (λ y. AreUses c.in_ok-inner.inner (inputs_of_nodes (nodes_in y) ++ results_used os x.id 0 (drop it.from (results_of y)))) (sym c.region.view_is) (c.in_ok-inner.ensures l os h)) in
+    let at : IsCursor looks d it.inputs.items c.args.tables.now.moves c.args.tables.now.words c.in_ok-inner.inner.value =
+    inner_cursor rule ask x.id values it.inputs.items it.from k w looks r.args.items nodes r.results.items inputs c.args.tables.now.moves c.args.tables.now.words c.args.uses.now c.in_ok-inner.inner.value is
+    (λ l os h. subst (λ y. AreUses c.in_ok-inner.inner.value (inputs_of_nodes (nodes_in y) ++ results_used os x.id 0 (drop it.from (results_of y)))) (sym c.region.view_is) (c.in_ok-inner.ensures l os h)) in
     let walked : IsWalked looks d (walk_nodes rule ask nodes d (stepped rule x.id values (nodes_values nodes) 0 w)) before after moves words now =
     subst (λ v. IsWalked looks d (walk_nodes rule ask nodes d v) before after moves words now) made
     (subst (λ ns. IsWalked looks d (walk_nodes rule ask (nodes_of ns) d start) before after moves words now) c.deref-4.ensures.value
     (c.in_ok-walk_nodes.ensures.ok d
-    (subst (λ os. IsCursor looks d os c.args.tables.now.moves c.args.tables.now.words c.in_ok-inner.inner) (sym c.deref-5.ensures.value) at))) in
+    (subst (λ os. IsCursor looks d os c.args.tables.now.moves c.args.tables.now.words c.deref-6.result.now) (sym c.deref-5.ensures.value)
+    (subst (λ us. IsCursor looks d it.inputs.items c.args.tables.now.moves c.args.tables.now.words us) (sym c.deref-6.ensures) at)))) in
     subst (λ y. IsWalked looks k (open_at rule ask (regions_in y) (id_of y) (node_values y) it.which it.inputs.items it.from k w) before after c.note.new.self words now) c.node.view_is
     (region_walked rule ask x.id values it.inputs.items it.from k w looks r.args.items nodes r.results.items x.regions.items it.which before after moves c.note.new.self words now
     c.in_ok-outputs.outputs.items there walked given noted))
@@ -294,25 +295,27 @@ walk_region-returns-clause-ok g t c =
     let r = c.region.inside in
     let nodes = nodes_of r.nodes.items in
     let results = r.results.items in
-    let tables = c.new-tables.result in
+    let tables = c.in_ok-tables.tables.value in
     let moves = c.walk_nodes.new.tables.moves in
     let words = c.walk_nodes.new.tables.words in
     let written = c.walk_nodes.new.written.items in
     let start = walking c.args.counts.now.values c.args.counts.now.next c.args.log.now.items in
     let now = walking c.walk_nodes.new.counts.values c.walk_nodes.new.counts.next c.walk_nodes.new.log.items in
     let k = begin looks rule ask nodes results in
-    let first : IsCursor looks k [] tables.moves tables.words c.in_ok-uses.uses = record {
+    let first : IsCursor looks k [] tables.moves tables.words c.in_ok-uses.uses.value = record {
       inputs_are = refl;
-      moved = c.new-tables.ensures.moves;
+      moved = c.in_ok-tables.ensures.moves;
       around = λ l. (
-        c.new-tables.ensures.words,
-        subst (λ y. AreUses c.in_ok-uses.uses (inputs_of_nodes (nodes_in y) ++ results_of y)) (sym c.region.view_is) (c.in_ok-uses.ensures l),
+        c.in_ok-tables.ensures.words,
+        subst (λ y. AreUses c.in_ok-uses.uses.value (inputs_of_nodes (nodes_in y) ++ results_of y)) (sym c.region.view_is) (c.in_ok-uses.ensures l),
       );
     } in
     let walked : IsWalked looks k (walk_nodes rule ask nodes k start) [] written moves words now =
     subst (λ ns. IsWalked looks k (walk_nodes rule ask nodes k start) ns written moves words now) c.in_ok-nodes.ensures.items
-    (subst (λ ns. IsWalked looks k (walk_nodes rule ask (nodes_of ns) k start) c.in_ok-nodes.nodes.items written moves words now) c.deref.ensures.value (c.in_ok-walk_nodes.ensures.ok k first)) in
-    ap₂ (λ xs os. record { region = region xs (nodes_of written) os; now = now }) (c.in_ok-args.ensures.items ∙ c.deref-2.ensures.value)
-    (c.in_ok-results.ensures ∙ ap (λ os. map (origin_in moves []) os) c.deref-3.ensures.value)
+    (subst (λ ns. IsWalked looks k (walk_nodes rule ask (nodes_of ns) k start) c.in_ok-nodes.nodes.items written moves words now) c.deref.ensures.value (c.in_ok-walk_nodes.ensures.ok k
+    (subst (λ b. IsCursor looks k [] b.moves b.words c.deref-2.result.now) (sym c.deref_mut.ensures.value)
+    (subst (λ us. IsCursor looks k [] tables.moves tables.words us) (sym c.deref-2.ensures) first)))) in
+    ap₂ (λ xs os. record { region = region xs (nodes_of written) os; now = now }) (c.in_ok-args.ensures.items ∙ c.deref-3.ensures.value)
+    (c.in_ok-results.ensures ∙ ap₂ (λ b os. map (origin_in b.moves []) os) c.deref-5.ensures c.deref-4.ensures.value)
     ∙ region_written looks rule ask r.args.items nodes results start now written moves words walked
     ∙ ap (λ y. walk_region rule ask y start) c.region.view_is
