@@ -3,7 +3,7 @@ use Rattle.std.proofs.Common.{◌≡◌, ◌==◌, Bool, true, drop, length, ◌
 use denote.Param.Weighed.{most}
 use Rattle.std.proofs.lemmas.List.{append_assoc, append-nil}
 use Rattle.std.proofs.lemmas.Option.{slice_get_read}
-use Rattle.std.specs.Prelude.{OnOk}
+use Rattle.std.specs.Prelude.{OnOk, IfOk}
 use Rattle.std.specs.declared.option.Option.TheVariants.{Some, None}
 use Rattle.std.specs.declared.result.Result.{Result}
 use Rattle.std.specs.declared.result.Result.TheVariants.{Ok, Err}
@@ -248,6 +248,10 @@ sound_at (s ∷ rs) (suc which) r e h = sound_at rs which r e h.1
 pub on_ok : {X Y : Type 0} (r : Result X Y) (P Q : Type 0) → (P → Q) → OnOk r P → OnOk r Q
 on_ok (Ok x) P Q f h = f h
 on_ok (Err e) P Q f h = tt
+
+pub on_value : {X Y : Type 0} (r : Result X Y) (P Q : X → Type 0) → ((x : X) → P x → Q x) → IfOk r P → IfOk r Q
+on_value (Ok x) P Q f h = f x h
+on_value (Err e) P Q f h = tt
 
 pub on_both : {X Y : Type 0} (r : Result X Y) (P Q S : Type 0) → (P → Q → S) → OnOk r P → OnOk r Q → OnOk r S
 on_both (Ok x) P Q S f h k = f h k

@@ -3,7 +3,7 @@
 ghost use Rattle.std.specs.Prelude.{◌≡◌, ◌∷◌, ◌++◌, [], ℕ, List, IfOk, OnOk, true, map, drop};
 ghost use Rattle.g_graph.specs.declared.op.Origin.{Origin};
 ghost use Rattle.g_graph.specs.declared.op.Origin.TheVariants.{Out};
-ghost use Rattle.g_graph.specs.Plain.{NodeTrees, nodes_of, regions_of, nodes_in, regions_in, op_of, id_of, inputs_in, results_of, node_then, no_nodes};
+ghost use Rattle.g_graph.specs.Plain.{region, NodeTrees, args_of, nodes_of, regions_of, nodes_in, regions_in, op_of, id_of, inputs_in, results_of, node_then, no_nodes};
 ghost use Rattle.g_graph.specs.Count.{node_values};
 ghost use Rattle.g_graph.specs.Splice.{joined_nodes};
 ghost use Rattle.g_graph.specs.WellFormed.{IsWellFormed};
@@ -92,22 +92,51 @@ struct Tables {
     words: Words,
 }
 
-impl Tables {
-    // On the heap, so that regions in each other take little of the stack.
-    #[inline(never)]
-    fn new(alloc: Global) -> Result<Box<Tables>, NoMemory>
-        ensures moves { IfOk result (λ tables. (n p : ℕ) → output_in tables.value.moves n p ≡ Out n p) }
-        ensures words { IfOk result (λ tables. AreWords tables.value.words no_nodes) }
-    {
-        Ok(Box::new(
-            alloc,
-            Tables {
-                moves: Moves::new(alloc),
-                words: Words::new(alloc),
-            },
-        )?)
-    }
+// What a walk of a region keeps. It stands on the heap, and is made and dropped in functions of its
+// own, so that regions in each other take little of the stack.
+#[inline(never)]
+fn begin<R: WalkRule>(
+    alloc: Global,
+    region: &Region,
+    by: &R,
+) -> Result<(Box<Tables>, Box<Uses>), NoMemory>
+    ensures moves { IfOk result (λ kept. (n p : ℕ) → output_in kept.0.value.moves n p ≡ Out n p) }
+    ensures words { IfOk result (λ kept. AreWords kept.0.value.words no_nodes) }
+    ensures uses { IfOk result (λ kept. R.looks by.now ≡ true →
+        AreUses kept.1.value (inputs_of_nodes (nodes_in region.now) ++ results_of region.now)) }
+{
+    let uses = used_in(alloc, region, by)?;
+    let tables = Tables {
+        moves: Moves::new(alloc),
+        words: Words::new(alloc),
+    };
+    Ok((Box::new(alloc, tables)?, Box::new(alloc, uses)?))
 }
+
+// The region, where these nodes were written for its own.
+#[inline(never)]
+fn end(
+    alloc: Global,
+    old: &Region,
+    nodes: Vec<Node>,
+    tables: Box<Tables>,
+    _uses: Box<Uses>,
+) -> Result<Region, NoMemory>
+    ensures { IfOk result (λ made. made ≡ region (args_of old.now) (nodes_of nodes.items)
+        (map (origin_in tables.value.moves []) (results_of old.now))) }
+{
+    let args = Vec::from_slice(alloc, &old.args)?;
+    let results = origins_now(alloc, &old.results, &[], &tables.moves)?;
+    Ok(Region {
+        args,
+        nodes,
+        results,
+    })
+}
+
+// What was kept is dropped.
+#[inline(never)]
+fn give_up(_tables: Box<Tables>, _uses: Box<Uses>) {}
 
 #[cycle(walk)]
 fn walk_region<R: WalkRule>(
@@ -125,10 +154,9 @@ fn walk_region<R: WalkRule>(
         (walking counts.old.values counts.old.next log.old.items)) }
     ensures gained { HasGained log.old.items log.new.items }
 {
-    let mut tables = Tables::new(alloc)?;
-    let uses = used_in(alloc, region, by)?;
     let mut nodes = Vec::with_capacity(alloc, region.nodes.len())?;
-    walk_nodes(
+    let (mut tables, uses) = begin(alloc, region, by)?;
+    match walk_nodes(
         alloc,
         &region.nodes,
         &[],
@@ -138,14 +166,13 @@ fn walk_region<R: WalkRule>(
         counts,
         log,
         &mut nodes,
-    )?;
-    let args = Vec::from_slice(alloc, &region.args)?;
-    let results = origins_now(alloc, &region.results, &[], &tables.moves)?;
-    Ok(Region {
-        args,
-        nodes,
-        results,
-    })
+    ) {
+        Ok(()) => end(alloc, region, nodes, tables, uses),
+        Err(fault) => {
+            give_up(tables, uses);
+            Err(fault)
+        }
+    }
 }
 
 #[cycle(walk)]
@@ -311,17 +338,15 @@ fn open<R: WalkRule>(
 }
 
 // What the region uses, where the rule looks at it.
-#[inline(never)]
-fn used_in<R: WalkRule>(alloc: Global, region: &Region, by: &R) -> Result<Box<Uses>, NoMemory>
+fn used_in<R: WalkRule>(alloc: Global, region: &Region, by: &R) -> Result<Uses, NoMemory>
     ensures { IfOk result (λ uses. R.looks by.now ≡ true →
-        AreUses uses.value (inputs_of_nodes (nodes_in region.now) ++ results_of region.now)) }
+        AreUses uses (inputs_of_nodes (nodes_in region.now) ++ results_of region.now)) }
 {
-    let uses = if by.looks() {
-        uses_of(alloc, region)?
+    if by.looks() {
+        uses_of(alloc, region)
     } else {
-        Uses::new(alloc)
-    };
-    Ok(Box::new(alloc, uses)?)
+        Ok(Uses::new(alloc))
+    }
 }
 
 // What a region uses that comes in the place of a node, where the rule looks at it.

@@ -2,18 +2,19 @@
 use Rattle.std.proofs.Common.{◌≡◌, ◌+◌, ◌∷◌, ◌++◌, [], map, drop, slice_get, drop_of_length-le, rules, refl, ap, ap₂, sym, subst, ◌∙◌}
 use Rattle.std.proofs.lemmas.List.{append-nil, drop_more}
 use Rattle.std.proofs.lemmas.Option.{slice_get_past}
+use Rattle.std.specs.Prelude.{OnOk}
 use Rattle.std.specs.declared.option.Option.TheVariants.{Some, None}
 use Rattle.g_graph.specs.Count.{saturated, node_values, nodes_values}
-use Rattle.g_graph.specs.Plain.{node, region, region_then, node_then, no_nodes, id_of, inputs_in, regions_in, nodes_in, results_of, nodes_of, regions_of}
+use Rattle.g_graph.specs.Plain.{node, region, args_of, region_then, node_then, no_nodes, id_of, inputs_in, regions_in, nodes_in, results_of, nodes_of, regions_of}
 use Rattle.g_graph.specs.Splice.{joined_nodes}
 use Rattle.g_mean.specs.Copies.{IsClosed, AllClosed}
 use Rattle.r_walk_def.specs.Context.{joined_regions}
-use Rattle.r_walk_def.specs.Walk.{cursor_in, inputs_of_nodes, results_used, stepped, walk_node, walk_nodes, walk_region, walk_regions, open_at}
+use Rattle.r_walk_def.specs.Walk.{Cursor, cursor_in, inputs_of_nodes, results_used, stepped, walk_node, walk_nodes, walk_region, walk_regions, open_at}
 use Rattle.r_walk.specs.Around.{AreWords, AreUses}
 use Rattle.r_walk.specs.Asks.{said_of, walking, IsSound, AllSound, AreSoundNodes, AreInnerClosed}
 use Rattle.r_walk.specs.Moves.{origin_in}
 use Rattle.r_walk.specs.Walks.{IsCursor, IsWalked, HasStepped}
-use Rattle.r_walk.proofs.Along.{region_inner, IsAlong, begin, begins, goes_on, ends, region_written, joined_more, joined_none, gained_more, gained_step, found_at, closed_at, sound_at, nodes_smaller, inner_smaller, stays_walked, step_walked, open_walked, none_walked, inner_cursor, region_walked, on_ok, on_both, on_all, step_made}
+use Rattle.r_walk.proofs.Along.{region_inner, IsAlong, begin, begins, goes_on, ends, region_written, joined_more, joined_none, gained_more, gained_step, found_at, closed_at, sound_at, nodes_smaller, inner_smaller, stays_walked, step_walked, open_walked, none_walked, inner_cursor, region_walked, on_ok, on_value, on_both, on_all, step_made}
 use Rattle.r_walk.proofs.Sound.{region_nodes}
 use Rattle.r_walk.proofs.walker.+walk.Goals as goal
 
@@ -287,8 +288,8 @@ walk_region-walk_nodes-requires g t c =
     let smaller = nodes_smaller r.args.items r.nodes.items c.deref.result.now r.results.items c.deref.ensures.value t c.args.region.now c.region.view_is c.decreases in
     λ κs within. (smaller, (search rules, (closed, sound)))
 
-pub walk_region-returns-clause-ok : goal.walk_region-returns-clause-ok
-walk_region-returns-clause-ok g t c =
+pub walk_region-returns-in-Ok-clause-ok : goal.walk_region-returns-in-Ok-clause-ok
+walk_region-returns-in-Ok-clause-ok g t c =
     let looks = g.R.WalkRule.looks c.args.by.now in
     let rule = g.R.WalkRule.rule c.args.by.now in
     let ask = g.R.WalkRule.asked c.args.by.now in
@@ -296,26 +297,32 @@ walk_region-returns-clause-ok g t c =
     let nodes = nodes_of r.nodes.items in
     let results = r.results.items in
     let tables = c.in_ok-tables.tables.value in
+    let uses = c.in_ok-tables.uses.value in
     let moves = c.walk_nodes.new.tables.moves in
     let words = c.walk_nodes.new.tables.words in
     let written = c.walk_nodes.new.written.items in
     let start = walking c.args.counts.now.values c.args.counts.now.next c.args.log.now.items in
     let now = walking c.walk_nodes.new.counts.values c.walk_nodes.new.counts.next c.walk_nodes.new.log.items in
     let k = begin looks rule ask nodes results in
-    let first : IsCursor looks k [] tables.moves tables.words c.in_ok-uses.uses.value = record {
+    let first : IsCursor looks k [] tables.moves tables.words uses = record {
       inputs_are = refl;
       moved = c.in_ok-tables.ensures.moves;
       around = λ l. (
         c.in_ok-tables.ensures.words,
-        subst (λ y. AreUses c.in_ok-uses.uses.value (inputs_of_nodes (nodes_in y) ++ results_of y)) (sym c.region.view_is) (c.in_ok-uses.ensures l),
+        subst (λ y. AreUses uses (inputs_of_nodes (nodes_in y) ++ results_of y)) (sym c.region.view_is) (c.in_ok-tables.ensures.uses l),
       );
     } in
+    let at : IsCursor looks k [] c.deref_mut.result.now.moves c.deref_mut.result.now.words c.deref-2.result.now =
+    subst (λ b. IsCursor looks k [] b.moves b.words c.deref-2.result.now) (sym c.deref_mut.ensures.value)
+    (subst (λ us. IsCursor looks k [] tables.moves tables.words us) (sym c.deref-2.ensures) first) in
     let walked : IsWalked looks k (walk_nodes rule ask nodes k start) [] written moves words now =
     subst (λ ns. IsWalked looks k (walk_nodes rule ask nodes k start) ns written moves words now) c.in_ok-nodes.ensures.items
-    (subst (λ ns. IsWalked looks k (walk_nodes rule ask (nodes_of ns) k start) c.in_ok-nodes.nodes.items written moves words now) c.deref.ensures.value (c.in_ok-walk_nodes.ensures.ok k
-    (subst (λ b. IsCursor looks k [] b.moves b.words c.deref-2.result.now) (sym c.deref_mut.ensures.value)
-    (subst (λ us. IsCursor looks k [] tables.moves tables.words us) (sym c.deref-2.ensures) first)))) in
-    ap₂ (λ xs os. record { region = region xs (nodes_of written) os; now = now }) (c.in_ok-args.ensures.items ∙ c.deref-3.ensures.value)
-    (c.in_ok-results.ensures ∙ ap₂ (λ b os. map (origin_in b.moves []) os) c.deref-5.ensures c.deref-4.ensures.value)
+    (subst (λ ns. IsWalked looks k (walk_nodes rule ask (nodes_of ns) k start) c.in_ok-nodes.nodes.items written moves words now) c.deref.ensures.value
+    (subst (λ made. OnOk made ((k : Cursor) → IsCursor looks k [] c.deref_mut.result.now.moves c.deref_mut.result.now.words c.deref-2.result.now →
+    IsWalked looks k (walk_nodes rule ask (nodes_of c.deref.result.now) k start) c.in_ok-nodes.nodes.items written moves words now)) c.in-Ok.is c.walk_nodes.ensures.ok k at)) in
+    on_value c.end.result _ _
+    (λ made is.
+    ap (λ y. record { region = y; now = now }) (is ∙ ap (λ y. region (args_of y) (nodes_of written) (map (origin_in moves []) (results_of y))) (sym c.region.view_is))
     ∙ region_written looks rule ask r.args.items nodes results start now written moves words walked
-    ∙ ap (λ y. walk_region rule ask y start) c.region.view_is
+    ∙ ap (λ y. walk_region rule ask y start) c.region.view_is)
+    c.end.ensures
