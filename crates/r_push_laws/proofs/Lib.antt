@@ -1,1 +1,3 @@
+mod Around
+mod Grown
 mod Walks
