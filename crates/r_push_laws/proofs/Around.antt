@@ -78,6 +78,11 @@ module _ (n : ℕ) (before : NodeTrees) (id : ℕ) (op : Op) (inputs : List Orig
   within_all h =
       subst (IsAmong n) (sym (regions_ids-joined done (region_then r rest))) (among-right n (regions_ids done) (region_ids r ++ regions_ids rest) (among-left n (region_ids r) (regions_ids rest) h))
 
+  pub in_outer : IsAmong n (region_ids r) → IsAmong n (nodes_ids (joined_nodes before (node_then (node id op inputs (joined_regions done (region_then r rest))) after)))
+  in_outer h =
+      subst (IsAmong n) (sym (nodes_ids-joined before (node_then (node id op inputs all_regions) after)))
+      (among-right n (nodes_ids before) ((id ∷ regions_ids all_regions) ++ nodes_ids after) (among-left n (id ∷ regions_ids all_regions) (nodes_ids after) (inr (within_all h))))
+
   pub apart_here : distinct (nodes_ids (joined_nodes before (node_then (node id op inputs (joined_regions done (region_then r rest))) after))) ≡ true → IsAmong n (region_ids r) → IsApart n before id done rest after
   apart_here unique h =
       record {
@@ -130,8 +135,8 @@ module _ (context : RegionTree → RegionTree) (around : IsAround context) (args
   with_region r = region args (joined_nodes before (node_then (holding r) after)) results
 
   module _ (n : ℕ) (f : RegionTree → Option RegionTree) (r : RegionTree) (only : ChangesAround n f) (apart : IsApart n before id done rest after) where
-    -- the region around holds the number where the region itself has it
-    own_lack : has_node n (nodes_in (with_region r)) ≡ false
+    -- the number is not one of the region around
+    pub own_lack : has_node n (joined_nodes before (node_then (node id op inputs (joined_regions done (region_then r rest))) after)) ≡ false
     own_lack = has_node-joined n before (node_then (holding r) after) ∙ (λ i. has_none n before apart.before_it i || (apart.itself i || has_none n after apart.after_it i))
 
     none_held : has_node n (nodes_in r) ≡ false → nodes_hold n (joined_nodes before (node_then (holding r) after)) ≡ false
@@ -159,16 +164,11 @@ module _ (context : RegionTree → RegionTree) (around : IsAround context) (args
   changes-inside : (n : ℕ) (f : RegionTree → Option RegionTree) (r : RegionTree) → ChangesAround n f → has_node n (nodes_in r) ≡ false → IsAmong n (region_ids r) →
       distinct (region_ids (context (with_region r))) ≡ true → region_changed f (context (with_region r)) ≡ option_map (λ s. context (with_region s)) (region_changed f r)
   changes-inside n f r only lacks h unique =
-      around.inside n f (with_region r) only (own_lack n f r only apart) there unique ∙ ap (option_map context) (inside_here n f r only apart lacks)
+      around.inside n f (with_region r) only (own_lack n f r only apart) (in_outer n before id op inputs done r rest after h) unique ∙ ap (option_map context) (inside_here n f r only apart lacks)
       ∙ map_twice with_region context (region_changed f r)
     where
       apart : IsApart n before id done rest after
       apart = apart_here n before id op inputs done r rest after (unique_in context around.is (with_region r) unique) h
-
-      there : IsAmong n (nodes_ids (joined_nodes before (node_then (holding r) after)))
-      there =
-          subst (IsAmong n) (sym (nodes_ids-joined before (node_then (holding r) after)))
-          (among-right n (nodes_ids before) (node_ids (holding r) ++ nodes_ids after) (among-left n (node_ids (holding r)) (nodes_ids after) (inr (within_all n before id op inputs done r rest after h))))
 
   pub inner_around : IsAround (λ r. context (region args (joined_nodes before (node_then (node id op inputs (joined_regions done (region_then r rest))) after)) results))
   inner_around = record { is = inner_context context around.is args before id op inputs done rest after results; inside = changes-inside }

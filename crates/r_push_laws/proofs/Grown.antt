@@ -86,13 +86,13 @@ pub none_grown : (loops : Bool) (rs : RegionTrees) → all_grown loops 0 rs ≡ 
 none_grown loops no_regions = refl
 none_grown loops (region_then r rs) = ap (region_then r) (none_grown loops rs)
 
+pub count_grown_alone : (loops : Bool) (more : ℕ) (rs : RegionTrees) → count_of (all_grown loops more rs) ≡ count_of rs
+count_grown_alone loops more no_regions = refl
+count_grown_alone loops more (region_then r rs) = ap suc (count_grown_alone loops more rs)
+
 pub count_grown : (loops : Bool) (more : ℕ) (done : RegionTrees) (r q : RegionTree) (rest : RegionTrees) →
     count_of (joined_regions (all_grown loops more done) (region_then r (all_grown loops more rest))) ≡ count_of (joined_regions done (region_then q rest))
-count_grown loops more no_regions r q rest = ap suc (as_many rest)
-  where
-    as_many : (rs : RegionTrees) → count_of (all_grown loops more rs) ≡ count_of rs
-    as_many no_regions = refl
-    as_many (region_then s rs) = ap suc (as_many rs)
+count_grown loops more no_regions r q rest = ap suc (count_grown_alone loops more rest)
 count_grown loops more (region_then d done) r q rest = ap suc (count_grown loops more done r q rest)
 
 -- ---- where a node left another region

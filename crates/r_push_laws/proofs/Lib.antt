@@ -1,3 +1,5 @@
 mod Around
 mod Grown
+mod Pushed
+mod Rooms
 mod Walks
