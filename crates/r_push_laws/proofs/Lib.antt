@@ -2,4 +2,5 @@ mod Around
 mod Grown
 mod Pushed
 mod Rooms
+mod Inner
 mod Walks

@@ -1,7 +1,7 @@
 -- A room is what is around a region while nodes leave it: it tells what a step at a node of the region makes of the lambda.
 use Rattle.std.specs.Option.{option_or}
 use Rattle.std.specs.Prelude.{is_some}
-use Rattle.std.proofs.Common.{◌≡◌, ℕ, suc, ◌+◌, ◌==◌, ◌||◌, Bool, true, false, if◌then◌else◌, List, [], ◌∷◌, ◌++◌, map, length, Option, None, Some, option_map, unwrap_or, refl, sym, ap, ap₂, subst, ◌∙◌, inr, arith}
+use Rattle.std.proofs.Common.{◌≡◌, ℕ, suc, ◌+◌, ◌==◌, ◌||◌, Bool, true, false, if◌then◌else◌, List, [], ◌∷◌, ◌++◌, map, length, Option, None, Some, option_map, unwrap_or, ◌&&◌, ◌^◌, nat_lt, refl, sym, ap, ap₂, subst, ◌∙◌, inr, arith}
 use Rattle.std.proofs.lemmas.Bool.{and_parts}
 use Rattle.std.proofs.lemmas.List.{length-append, map-append, append_assoc}
 use Rattle.g_graph.specs.declared.op.Kind.{Kind}
@@ -12,7 +12,7 @@ use Rattle.g_graph.specs.declared.op.Origin.{Origin}
 use Rattle.g_graph.specs.declared.op.Origin.TheVariants.{Out}
 use Rattle.g_graph.specs.Change.{region_changed, node_changed, nodes_changed}
 use Rattle.g_graph.specs.Count.{region_values, node_values, nodes_values}
-use Rattle.g_graph.specs.Ids.{region_ids, nodes_ids, regions_ids}
+use Rattle.g_graph.specs.Ids.{node_ids, nodes_ids, regions_ids}
 use Rattle.g_graph.specs.Plain.{RegionTree, region, NodeTree, node, NodeTrees, no_nodes, node_then, RegionTrees, no_regions, region_then, id_of, args_of, results_of, nodes_of, regions_in, PlainLambda}
 use Rattle.g_graph.specs.Program.{lambda_values}
 use Rattle.g_graph.specs.Replace.{node_redirected}
@@ -27,14 +27,15 @@ use Rattle.g_mean.proofs.lemmas.Copies.{among-left, among-right}
 use Rattle.g_mean.proofs.lemmas.Holds.{id-among}
 use Rattle.g_mean.proofs.lemmas.Inside.{node-here, as-many, regions-closed}
 use Rattle.r_push.specs.Edit.{outer}
-use Rattle.r_push.specs.Rule.{pushed_within, nodes_pushed, psh_here, applies, psh}
+use Rattle.r_edit.specs.Size.{may_change_size}
+use Rattle.r_push.specs.Rule.{may_leave, pushed_within, nodes_pushed, psh_here, applies, psh}
 use Rattle.r_push.proofs.Gammas.{AllTake}
 use Rattle.r_push.proofs.Replaced.{take-all}
 use Rattle.r_push_laws.specs.Walk.{Exit, shut, choice, loop, exit_of, is_open, is_loop, growth_of, all_grown, outputs_of_left}
 use Rattle.r_push_laws.proofs.Around.{nodes_hold, regions_lack, nodes_lack, nodes_hold-joined, none_around, IsApart, apart_here, in_outer, own_lack, nodes_inside, IsAround, body_around, inner_around}
-use Rattle.r_push_laws.proofs.Pushed.{psh_around, nodes_pushed_at, leaves_now, without, two, IsHere, pushed_at, values_at}
+use Rattle.r_push_laws.proofs.Pushed.{psh_around, nodes_pushed_at, test_of, leaves_now, without, two, IsHere, pushed_at, values_at}
 use Rattle.r_walk_def.specs.Context.{joined_regions, IsContext}
-use Rattle.r_walk_laws.proofs.lemmas.Contexts.{nodes_changed_within, regions_unchanged_without, whole_part}
+use Rattle.r_walk_laws.proofs.lemmas.Contexts.{map_twice, nodes_changed_within, regions_unchanged_without, whole_part}
 use Rattle.r_walk_laws.proofs.lemmas.Local.{not_in_before, not_in_after, not_inside, not_before}
 
 -- ---- what a room tells
@@ -79,7 +80,7 @@ module _ (l : PlainLambda) (context : RegionTree → RegionTree) (is : IsContext
   pub in_own : IsAmong (id_of y) (nodes_ids (joined_nodes first (node_then y last)))
   in_own =
       subst (IsAmong n) (sym (nodes_ids-joined first (node_then y last)))
-      (among-right n (nodes_ids first) (nodes_ids (node_then y last)) (among-left n (nodes_ids (node_then y no_nodes)) (nodes_ids last) (among-left n _ [] (id-among y))))
+      (among-right n (nodes_ids first) (node_ids y ++ nodes_ids last) (among-left n (node_ids y) (nodes_ids last) (id-among y)))
 
   module _ (v : ℕ) where
     node_none : (z : NodeTree) → (IsAmong n (regions_ids (regions_in z)) → ⊥) → node_changed (psh_here v n) z ≡ None
@@ -105,40 +106,3 @@ body_room = record {
   stays = λ l well left empty own first y last outs at e.
       ap is_some (ap (region_changed (psh_here (lambda_values l) (id_of y))) at ∙ own_unchanged l (λ r. r) body_around.is well own first y last outs at (lambda_values l));
 }
-
--- ---- how many arguments
-
-takes_of : (count : ℕ) (done : RegionTrees) (r : RegionTree) (rest : RegionTrees) → AllTake count (joined_regions done (region_then r rest)) → count ≡ length (args_of r)
-takes_of count no_regions r rest h = h.0
-takes_of count (region_then d done) r rest h = takes_of count done r rest h.1
-
-module _ (l : PlainLambda) (args : List Kind) (before : NodeTrees) (id : ℕ) (done : RegionTrees) (r : RegionTree) (rest : RegionTrees) (after : NodeTrees) (results : List Origin) where
-  abbrev all : RegionTrees
-  all = joined_regions done (region_then r rest)
-
-  abbrev IsPart : Op → List Origin → Type 0
-  IsPart op inputs = IsPartOf l (region args (joined_nodes before (node_then (node id op inputs (joined_regions done (region_then r rest))) after)) results)
-
-  first_take : (inputs : List Origin) → IsPart Gamma inputs → AllTake (length (first_args all)) all
-  first_take inputs part =
-      take-all (first_args all) (λ s. are (result_kinds s) (kinds_of (output_kinds (node id Gamma inputs all)))) all (node-here l args before (node id Gamma inputs all) after results part).regions
-
-  pub gamma_takes : (inputs : List Origin) → IsPart Gamma inputs → AllTake (length (args_of r)) (joined_regions done (region_then r rest))
-  gamma_takes inputs part = subst (λ k. AllTake k all) (takes_of (length (first_args all)) done r rest (first_take inputs part)) (first_take inputs part)
-
-  pub gamma_many : (p : Origin) (entries : List Origin) → IsPart Gamma (p ∷ entries) → length entries ≡ length (args_of r)
-  gamma_many p entries part =
-      let here = node-here l args before (node id Gamma (p ∷ entries) all) after results part in
-      omega (arith, as-many (known args before) (p ∷ entries) (Value ∷ first_args all) here.inputs, takes_of (length (first_args all)) done r rest (first_take (p ∷ entries) part))
-
-pub theta_many : (l : PlainLambda) (args : List Kind) (before : NodeTrees) (id : ℕ) (inputs : List Origin) (r : RegionTree) (after : NodeTrees) (results : List Origin) →
-    IsPartOf l (region args (joined_nodes before (node_then (node id Theta inputs (region_then r no_regions)) after)) results) → length inputs ≡ length (args_of r)
-theta_many l args before id inputs r after results part =
-    as-many (known args before) inputs (args_of r) (node-here l args before (node id Theta inputs (region_then r no_regions)) after results part).inputs
-
-pub theta_turns : (l : PlainLambda) (args : List Kind) (before : NodeTrees) (id : ℕ) (inputs : List Origin) (r : RegionTree) (after : NodeTrees) (results : List Origin) →
-    IsPartOf l (region args (joined_nodes before (node_then (node id Theta inputs (region_then r no_regions)) after)) results) → length (results_of r) ≡ suc (length (args_of r))
-theta_turns l args before id inputs (region own nodes outs) after results part =
-    as-many (known own nodes) outs (Value ∷ own)
-    (and_parts (are (result_kinds (region own nodes outs)) (Value ∷ own)) true
-    (node-here l args before (node id Theta inputs (region_then (region own nodes outs) no_regions)) after results part).regions).0
