@@ -3,4 +3,5 @@ mod Grown
 mod Pushed
 mod Rooms
 mod Inner
+mod Tested
 mod Walks

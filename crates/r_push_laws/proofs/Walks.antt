@@ -6,6 +6,7 @@ use Rattle.r_push_laws.proofs.Around.{body_around, inner_around}
 use Rattle.r_push_laws.proofs.Grown.{grown_is}
 use Rattle.r_push_laws.proofs.Pushed.{psh_around}
 use Rattle.r_push_laws.proofs.Rooms.{body_room}
+use Rattle.r_push_laws.proofs.Tested.{used_is}
 use Rattle.r_push_laws.proofs.Inner.{inner_room}
 use Rattle.r_push_laws.specs.Laws.{WalkIsSweep}
 
