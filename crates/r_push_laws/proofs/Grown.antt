@@ -34,6 +34,15 @@ pub grown_is : (loops : Bool) (more : ℕ) (args : List Kind) (nodes : NodeTrees
 grown_is loops zero args nodes results = refl
 grown_is loops (suc more) args nodes results = ap (grown_by_one loops) (grown_is loops more args nodes results)
 
+pub grown_args_many : (more : ℕ) (args : List Kind) → length (grown_args more args) ≡ length args + more
+grown_args_many zero args = omega arith
+grown_args_many (suc more) args = omega (arith, grown_args_many more args, length-append (grown_args more args) (Value ∷ []))
+
+pub grown_results_many : (more : ℕ) (args : List Kind) (results : List Origin) → length (grown_results true more args results) ≡ length results + more
+grown_results_many zero args results = omega arith
+grown_results_many (suc more) args results =
+    omega (arith, grown_results_many more args results, length-append (grown_results true more args results) (Arg (length (grown_args more args)) ∷ []))
+
 -- a change of origins that keeps arguments keeps those that were added
 pub grown_mapped : (f : Origin → Origin) → ((k : ℕ) → f (Arg k) ≡ Arg k) → (loops : Bool) (more : ℕ) (args : List Kind) (results : List Origin) →
     map f (grown_results loops more args results) ≡ grown_results loops more args (map f results)

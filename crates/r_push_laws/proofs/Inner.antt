@@ -221,7 +221,7 @@ module _ (context : RegionTree → RegionTree) (surrounds : IsAround context) (a
         by : (o : Option NodeTrees) → option_or (option_map (λ ns. region args ns results) (option_map (λ part. joined_nodes (earlier_now left) (joined_nodes part after)) o)) None
             ≡ option_map (λ part. region args (joined_nodes (earlier_now left) (joined_nodes part after)) results) o
         by None = refl
-        by (Some part) = refl
+        by (Some new) = refl
 
     body_changed : (o : Option NodeTrees) → pushed_within v n (inner_now left r) ≡ o →
         region_changed f l.body ≡ option_map (λ part. context (region args (joined_nodes (earlier_now left) (joined_nodes part after)) results)) o

@@ -15,7 +15,7 @@ use Rattle.g_graph.specs.Splice.{joined_nodes}
 use Rattle.g_graph.specs.WellFormed.{all_of, some_of, is_origin}
 use Rattle.r_push.specs.Rule.{is_invariant}
 use Rattle.r_push_laws.specs.Walk.{Exit, shut, choice, loop, is_open, is_loop, Cursor, is_kept, moved_result, goes_along}
-use Rattle.r_push_laws.proofs.Grown.{grown_args, grown_results, some_grown}
+use Rattle.r_push_laws.proofs.Grown.{grown_args, grown_results, grown_args_many, grown_results_many, some_grown}
 use Rattle.r_push_laws.proofs.Pushed.{test_of}
 use Rattle.r_walk_def.specs.Walk.{Moved, origin_now, inputs_of_nodes, is_in}
 use Rattle.r_walk_laws.proofs.lemmas.Moves.{inputs-joined}
@@ -47,19 +47,44 @@ none_past (x ∷ xs) (suc k) e = let rest = none_past xs k e in omega (arith, re
 -- ---- a variable of a loop
 
 module _ (args : List Kind) (results : List Origin) (turns : length results ≡ suc (length args)) where
-  args_many : (more : ℕ) → length (grown_args more args) ≡ length args + more
-  args_many zero = omega arith
-  args_many (suc more) = omega (arith, args_many more, length-append (grown_args more args) (Value ∷ []))
-
   results_many : (more : ℕ) → length (grown_results true more args results) ≡ suc (length (grown_args more args))
-  results_many zero = turns
-  results_many (suc more) =
-      omega (
-        arith,
-        results_many more,
-        length-append (grown_results true more args results) (Arg (length (grown_args more args)) ∷ []),
-        length-append (grown_args more args) (Value ∷ []),
-      )
+  results_many more = omega (arith, turns, grown_results_many more args results, grown_args_many more args)
+
+  module _ (more : ℕ) where
+    abbrev os : List Origin
+    os = grown_results true more args results
+
+    abbrev m : ℕ
+    m = length (grown_args more args)
+
+    longer : length (grown_args more args ++ Value ∷ []) ≡ suc m
+    longer = omega (arith, length-append (grown_args more args) (Value ∷ []))
+
+    later : length args ≤ m
+    later = omega (arith, grown_args_many more args)
+
+    more_kept : (i : ℕ) (o : Option Origin) → nat_lt i m ≡ true → is_kept o m i ≡ is_kept o (suc m) i
+    more_kept i None h = grind (arith, nat_tests)
+    more_kept i (Some o) h = refl
+
+    -- with one more variable, where the result was right so far
+    kept_then : (i : ℕ) → is_origin (slice_get os (suc i)) (Arg i) ≡ is_kept (slice_get results (suc i)) m i → (s : Bool) → nat_lt i m ≡ s → (t : Bool) → (i == m) ≡ t →
+        is_origin (slice_get (os ++ Arg m ∷ []) (suc i)) (Arg i) ≡ is_kept (slice_get results (suc i)) (length (grown_args more args ++ Value ∷ [])) i
+    kept_then i so_far true h t e =
+        let less : i < m = grind (arith, nat_tests) in
+        ap (λ o. is_origin o (Arg i)) (got_before os (Arg m) (suc i) (omega (arith, less, results_many more))) ∙ so_far ∙ more_kept i (slice_get results (suc i)) h
+        ∙ ap (λ k. is_kept (slice_get results (suc i)) k i) (sym longer)
+    kept_then i so_far false h true e =
+        let same : i ≡ m = grind (arith, nat_tests) in
+        let test : (m == i) ≡ true = grind (arith, nat_tests) in
+        let added : nat_lt i (suc m) ≡ true = grind (arith, nat_tests) in
+        ap (λ o. is_origin o (Arg i)) (got_last os (Arg m) (suc i) (omega (arith, same, results_many more))) ∙ test ∙ sym added
+        ∙ ap₂ (λ o k. is_kept o k i) (sym (got_past results (suc i) (omega (arith, same, later, turns)))) (sym longer)
+    kept_then i so_far false h false e =
+        let more_than : m < i = grind (arith, nat_tests) in
+        let not_added : nat_lt i (suc m) ≡ false = grind (arith, nat_tests) in
+        ap (λ o. is_origin o (Arg i)) (got_past (os ++ Arg m ∷ []) (suc i) (omega (arith, more_than, results_many more, length-append os (Arg m ∷ []))))
+        ∙ sym not_added ∙ ap₂ (λ o k. is_kept o k i) (sym (got_past results (suc i) (omega (arith, more_than, later, turns)))) (sym longer)
 
   kept_is : (more i : ℕ) → is_origin (slice_get (grown_results true more args results) (suc i)) (Arg i) ≡ is_kept (slice_get results (suc i)) (length (grown_args more args)) i
   kept_is zero i = by (slice_get results (suc i)) refl
@@ -67,41 +92,7 @@ module _ (args : List Kind) (results : List Origin) (turns : length results ≡ 
       by : (o : Option Origin) → slice_get results (suc i) ≡ o → is_origin o (Arg i) ≡ is_kept o (length args) i
       by None e = let past = none_past results (suc i) e in grind (arith, nat_tests)
       by (Some o) e = refl
-  kept_is (suc more) i = by (nat_lt i (length (grown_args more args))) refl (i == length (grown_args more args)) refl
-    where
-      abbrev os : List Origin
-      os = grown_results true more args results
-
-      abbrev m : ℕ
-      m = length (grown_args more args)
-
-      longer : length (grown_args more args ++ Value ∷ []) ≡ suc m
-      longer = omega (arith, length-append (grown_args more args) (Value ∷ []))
-
-      more_kept : (o : Option Origin) → nat_lt i m ≡ true → is_kept o m i ≡ is_kept o (suc m) i
-      more_kept None h = grind (arith, nat_tests)
-      more_kept (Some o) h = refl
-
-      later : length args ≤ m
-      later = omega (arith, args_many more)
-
-      by : (s : Bool) → nat_lt i m ≡ s → (t : Bool) → (i == m) ≡ t →
-          is_origin (slice_get (os ++ Arg m ∷ []) (suc i)) (Arg i) ≡ is_kept (slice_get results (suc i)) (length (grown_args more args ++ Value ∷ [])) i
-      by true h t e =
-          let less : i < m = grind (arith, nat_tests) in
-          ap (λ o. is_origin o (Arg i)) (got_before os (Arg m) (suc i) (omega (arith, less, results_many more))) ∙ kept_is more i ∙ more_kept (slice_get results (suc i)) h
-          ∙ ap (λ k. is_kept (slice_get results (suc i)) k i) (sym longer)
-      by false h true e =
-          let same : i ≡ m = grind (arith, nat_tests) in
-          let test : (m == i) ≡ true = grind (arith, nat_tests) in
-          let added : nat_lt i (suc m) ≡ true = grind (arith, nat_tests) in
-          ap (λ o. is_origin o (Arg i)) (got_last os (Arg m) (suc i) (omega (arith, same, results_many more))) ∙ test ∙ sym added
-          ∙ ap₂ (λ o k. is_kept o k i) (sym (got_past results (suc i) (omega (arith, same, later, turns)))) (sym longer)
-      by false h false e =
-          let more_than : m < i = grind (arith, nat_tests) in
-          let not_added : nat_lt i (suc m) ≡ false = grind (arith, nat_tests) in
-          ap (λ o. is_origin o (Arg i)) (got_past (os ++ Arg m ∷ []) (suc i) (omega (arith, more_than, results_many more, length-append os (Arg m ∷ []))))
-          ∙ sym not_added ∙ ap₂ (λ o k. is_kept o k i) (sym (got_past results (suc i) (omega (arith, more_than, later, turns)))) (sym longer)
+  kept_is (suc more) i = kept_then more i (kept_is more i) (nat_lt i (length (grown_args more args))) refl (i == length (grown_args more args)) refl
 
 -- ---- the origins that a node takes along
 
