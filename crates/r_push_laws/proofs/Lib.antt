@@ -4,4 +4,5 @@ mod Pushed
 mod Rooms
 mod Inner
 mod Tested
+mod Node
 mod Walks
