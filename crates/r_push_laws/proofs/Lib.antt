@@ -6,3 +6,4 @@ mod Inner
 mod Tested
 mod Node
 mod Walks
+mod Examples

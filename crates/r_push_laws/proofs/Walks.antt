@@ -1,5 +1,5 @@
 -- A walk of push is a sweep: by recursion over the old tree, where what is written stands before the cursor.
-use Rattle.std.proofs.Common.{◌≡◌, ℕ, suc, ◌+◌, false, List, [], ◌∷◌, ◌++◌, map, length, refl, sym, ap, subst, ◌∙◌}
+use Rattle.std.proofs.Common.{◌≡◌, ℕ, suc, false, List, [], ◌∷◌, ◌++◌, map, length, refl, sym, ap, subst, ◌∙◌}
 use Rattle.std.proofs.lemmas.List.Sums.{fold-append}
 use Rattle.g_graph.specs.declared.op.Kind.{Kind}
 use Rattle.g_graph.specs.declared.op.Op.{Op}
@@ -27,7 +27,6 @@ use Rattle.r_walk_def.specs.Walk.{origin_now, inputs_of_nodes, is_in}
 use Rattle.r_walk_laws.proofs.lemmas.Moves.{nothing_moved}
 use Rattle.r_push_laws.proofs.Node.{logged, swept, Room, IsState, IsAt, Reaches, Ends, region_with, lambda_with, node_in, RegionsAre, node_is}
 
-
 abbrev RegionIs : RegionTree → Type 0
 RegionIs r =
     (given : List Origin) (room : Room) (exit : Exit) → IsRoom exit given room → (w : Walking) (l : PlainLambda) → IsState given exit w l →
@@ -45,7 +44,6 @@ NodesAre ns =
           (region_with (is_loop k.exit) (walk_nodes ns k w).now.left args before (walk_nodes ns k w).nodes k.results (walk_nodes ns k w).moved);
     })
     (walk_nodes ns k w).now
-
 
 -- ---- regions
 
