@@ -43,7 +43,7 @@ or_both : (s t u : Bool) → (s || (t || u)) ≡ ((s || t) || u)
 or_both true t u = refl
 or_both false t u = refl
 
-pub regions_have-joined : (n : ℕ) (rs ss : RegionTrees) → regions_have n (joined_regions rs ss) ≡ (regions_have n rs || regions_have n ss)
+regions_have-joined : (n : ℕ) (rs ss : RegionTrees) → regions_have n (joined_regions rs ss) ≡ (regions_have n rs || regions_have n ss)
 regions_have-joined n no_regions ss = refl
 regions_have-joined n (region_then r rs) ss = ap (λ t. has_node n (nodes_in r) || t) (regions_have-joined n rs ss) ∙ or_both (has_node n (nodes_in r)) (regions_have n rs) (regions_have n ss)
 
@@ -74,7 +74,7 @@ module _ (n : ℕ) (before : NodeTrees) (id : ℕ) (op : Op) (inputs : List Orig
   abbrev all_regions : RegionTrees
   all_regions = joined_regions done (region_then r rest)
 
-  pub within_all : IsAmong n (region_ids r) → IsAmong n (regions_ids (joined_regions done (region_then r rest)))
+  within_all : IsAmong n (region_ids r) → IsAmong n (regions_ids (joined_regions done (region_then r rest)))
   within_all h =
       subst (IsAmong n) (sym (regions_ids-joined done (region_then r rest))) (among-right n (regions_ids done) (region_ids r ++ regions_ids rest) (among-left n (region_ids r) (regions_ids rest) h))
 
@@ -122,7 +122,7 @@ body_around = record { is = body_context; inside = λ n f r only lacks h unique.
     itself (Some r) = refl
 
 -- the numbers of a region in a context are unique
-pub unique_in : (context : RegionTree → RegionTree) → IsContext context → (r : RegionTree) → distinct (region_ids (context r)) ≡ true → distinct (region_ids r) ≡ true
+unique_in : (context : RegionTree → RegionTree) → IsContext context → (r : RegionTree) → distinct (region_ids (context r)) ≡ true → distinct (region_ids r) ≡ true
 unique_in context is r unique =
     (distinct-split is.first (region_ids r) (distinct-split (is.first ++ region_ids r) is.last (subst (λ ids. distinct ids ≡ true) (is.numbers r) unique)).0).1
 

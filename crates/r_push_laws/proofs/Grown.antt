@@ -56,10 +56,6 @@ grown_mapped f keeps loops (suc more) args results = by loops (grown_mapped f ke
         ∙ ap₂ (λ os o. os ++ o ∷ []) e (keeps (length (grown_args more args)))
     by false e = e
 
-or_false : (t : Bool) → (t || false) ≡ t
-or_false true = refl
-or_false false = refl
-
 some-added : (n p k : ℕ) (os : List Origin) → some_of (same_origin (Out n p)) (os ++ Arg k ∷ []) ≡ some_of (same_origin (Out n p)) os
 some-added n p k [] = refl
 some-added n p k (o ∷ os) = ap (λ t. same_origin (Out n p) o || t) (some-added n p k os)
@@ -78,7 +74,7 @@ some_grown n p loops (suc more) args results = by loops (some_grown n p loops mo
 
 -- ---- regions
 
-pub grown_ids : (loops : Bool) (more : ℕ) (r : RegionTree) → region_ids (grown loops more r) ≡ region_ids r
+grown_ids : (loops : Bool) (more : ℕ) (r : RegionTree) → region_ids (grown loops more r) ≡ region_ids r
 grown_ids loops more (region args nodes results) = ap region_ids (grown_is loops more args nodes results)
 
 pub all_grown_ids : (loops : Bool) (more : ℕ) (rs : RegionTrees) → regions_ids (all_grown loops more rs) ≡ regions_ids rs
@@ -105,7 +101,7 @@ count_grown loops more (region_then d done) r q rest = ap suc (count_grown loops
 
 -- ---- where a node left another region
 
-pub carried_other : (n : ℕ) (r : RegionTree) → IsClosed r → (IsAmong n (region_ids r) → ⊥) → carried n r ≡ grown_by_one false r
+carried_other : (n : ℕ) (r : RegionTree) → IsClosed r → (IsAmong n (region_ids r) → ⊥) → carried n r ≡ grown_by_one false r
 carried_other n (region args nodes results) closed apart = carried-elsewhere n args nodes results closed apart
 
 pub regions_carried_other : (n more : ℕ) (rs : RegionTrees) → AllClosed (all_grown false more rs) → (IsAmong n (regions_ids rs) → ⊥) →

@@ -54,20 +54,20 @@ module _ (l : PlainLambda) (args : List Kind) (before : NodeTrees) (id : ℕ) (d
   first_take inputs part =
       take-all (first_args all) (λ s. are (result_kinds s) (kinds_of (output_kinds (node id Gamma inputs all)))) all (node-here l args before (node id Gamma inputs all) after results part).regions
 
-  pub gamma_takes : (inputs : List Origin) → IsPart Gamma inputs → AllTake (length (args_of r)) (joined_regions done (region_then r rest))
+  gamma_takes : (inputs : List Origin) → IsPart Gamma inputs → AllTake (length (args_of r)) (joined_regions done (region_then r rest))
   gamma_takes inputs part = subst (λ k. AllTake k all) (takes_of (length (first_args all)) done r rest (first_take inputs part)) (first_take inputs part)
 
-  pub gamma_many : (p : Origin) (entries : List Origin) → IsPart Gamma (p ∷ entries) → length entries ≡ length (args_of r)
+  gamma_many : (p : Origin) (entries : List Origin) → IsPart Gamma (p ∷ entries) → length entries ≡ length (args_of r)
   gamma_many p entries part =
       let here = node-here l args before (node id Gamma (p ∷ entries) all) after results part in
       omega (arith, as-many (known args before) (p ∷ entries) (Value ∷ first_args all) here.inputs, takes_of (length (first_args all)) done r rest (first_take (p ∷ entries) part))
 
-pub theta_many : (l : PlainLambda) (args : List Kind) (before : NodeTrees) (id : ℕ) (inputs : List Origin) (r : RegionTree) (after : NodeTrees) (results : List Origin) →
+theta_many : (l : PlainLambda) (args : List Kind) (before : NodeTrees) (id : ℕ) (inputs : List Origin) (r : RegionTree) (after : NodeTrees) (results : List Origin) →
     IsPartOf l (region args (joined_nodes before (node_then (node id Theta inputs (region_then r no_regions)) after)) results) → length inputs ≡ length (args_of r)
 theta_many l args before id inputs r after results part =
     as-many (known args before) inputs (args_of r) (node-here l args before (node id Theta inputs (region_then r no_regions)) after results part).inputs
 
-pub theta_turns : (l : PlainLambda) (args : List Kind) (before : NodeTrees) (id : ℕ) (inputs : List Origin) (r : RegionTree) (after : NodeTrees) (results : List Origin) →
+theta_turns : (l : PlainLambda) (args : List Kind) (before : NodeTrees) (id : ℕ) (inputs : List Origin) (r : RegionTree) (after : NodeTrees) (results : List Origin) →
     IsPartOf l (region args (joined_nodes before (node_then (node id Theta inputs (region_then r no_regions)) after)) results) → length (results_of r) ≡ suc (length (args_of r))
 theta_turns l args before id inputs (region own nodes outs) after results part =
     as-many (known own nodes) outs (Value ∷ own)
@@ -123,7 +123,7 @@ module _ (context : RegionTree → RegionTree) (surrounds : IsAround context) (a
   given = outer (node id op ins no_regions)
 
   -- the node that is left, and the nodes before it
-  abbrev pub inner_now : List NodeTree → RegionTree → NodeTree
+  abbrev inner_now : List NodeTree → RegionTree → NodeTree
   inner_now left r =
       node id op (ins ++ outputs_of_left left) (joined_regions (all_grown (is_loop exit) (length left) done) (region_then r (all_grown (is_loop exit) (length left) rest)))
 

@@ -338,7 +338,7 @@ module _ (given : List Origin) (room : Room) (k : Cursor) (is : IsRoom k.exit gi
         map-append one (inputs_of_nodes rest) results_now
         ∙ ap₂ (λ os us. os ++ us) (sym (inputs-redirected one rest) ∙ ap inputs_of_nodes (nodes_twice now one later_now both xs)) (origins_twice now one later_now both k.results)
 
-    pub node_leaves : Ends (gone k w x)
+    node_leaves : Ends (gone k w x)
     node_leaves = record {
       swept_so =
           ap (λ b. swept (regions_ids rs) (if b then record { lambda = psh id l; steps = t.now.steps } else logged l w)) left_here.applied
@@ -411,7 +411,7 @@ module _ (given : List Origin) (room : Room) (k : Cursor) (is : IsRoom k.exit gi
         ap (λ ns. record l { body = room w.left (region own ns outs) }) nodes_same
         ∙ ap (λ r. record l { body = room w.left r }) (sym (grown_is (is_loop k.exit) (length w.left) args (joined_nodes here_then rest) results_now))
 
-    pub node_stays : Ends (stayed k w x inner)
+    node_stays : Ends (stayed k w x inner)
     node_stays = record {
       swept_so =
           ap (λ b. swept (regions_ids rs) (if b then record { lambda = psh id l; steps = w.steps ++ record { rule = Push; node = id } ∷ [] } else logged l w)) not_applied

@@ -38,16 +38,16 @@ use Rattle.r_walk_laws.proofs.lemmas.Local.{not_found}
 
 -- ---- where the number is not there
 
-pub leaving_none : (test : Origin → Bool) (n : ℕ) (r : RegionTree) → has_node n (nodes_in r) ≡ false → leaving test n r ≡ None
+leaving_none : (test : Origin → Bool) (n : ℕ) (r : RegionTree) → has_node n (nodes_in r) ≡ false → leaving test n r ≡ None
 leaving_none test n (region args nodes results) e = ap (option_and_then (λ x. only (may_leave test (region args nodes results) x) x)) (not_found n nodes e)
 
-pub leaving_one_none : (n : ℕ) (rs : RegionTrees) → regions_have n rs ≡ false → leaving_one n rs ≡ None
+leaving_one_none : (n : ℕ) (rs : RegionTrees) → regions_have n rs ≡ false → leaving_one n rs ≡ None
 leaving_one_none n no_regions e = refl
 leaving_one_none n (region_then r rs) e =
     let p = or_parts (has_node n (nodes_in r)) (regions_have n rs) e in
     ap₂ option_or (leaving_none names_argument n r p.0) (leaving_one_none n rs p.1)
 
-pub pushed_none : (n : ℕ) (x : NodeTree) → regions_have n (regions_in x) ≡ false → pushed n x ≡ None
+pushed_none : (n : ℕ) (x : NodeTree) → regions_have n (regions_in x) ≡ false → pushed n x ≡ None
 pushed_none n (node id Gamma (p ∷ entries) rs) e = ap (option_map _) (leaving_one_none n rs e)
 pushed_none n (node id Theta inputs (region_then r no_regions)) e = ap (option_map _) (leaving_none (is_invariant (results_of r)) n r (or_parts (has_node n (nodes_in r)) false e).0)
 pushed_none n x e = refl
@@ -56,10 +56,10 @@ cond_none : (t : Bool) (o : Option NodeTrees) → o ≡ None → cond t o None �
 cond_none true o e = e
 cond_none false o e = refl
 
-pub within_none : (v n : ℕ) (x : NodeTree) → pushed n x ≡ None → pushed_within v n x ≡ None
+within_none : (v n : ℕ) (x : NodeTree) → pushed n x ≡ None → pushed_within v n x ≡ None
 within_none v n x e = cond_none (may_change_size v (growth x) 0 && can_count x) (pushed n x) e
 
-pub nodes_pushed_none : (v n : ℕ) (ns : NodeTrees) → nodes_hold n ns ≡ false → nodes_pushed v n ns ≡ None
+nodes_pushed_none : (v n : ℕ) (ns : NodeTrees) → nodes_hold n ns ≡ false → nodes_pushed v n ns ≡ None
 nodes_pushed_none v n no_nodes e = refl
 nodes_pushed_none v n (node_then x ns) e =
     let p = or_parts (regions_have n (regions_in x)) (nodes_hold n ns) e in
