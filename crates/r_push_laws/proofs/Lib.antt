@@ -1,0 +1,7 @@
+mod Around
+mod Grown
+mod Pushed
+mod Rooms
+mod Inner
+mod Tested
+mod Walks
