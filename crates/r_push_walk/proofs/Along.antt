@@ -45,10 +45,10 @@ pub begins : (whole : NodeTrees) (first : Cursor) (start : Walking) (begun : Lis
     IsAlong whole first start begun begun place moves whole start
 begins whole first start begun place moves is = record { cursor = first; is = is; nodes = refl; moves_are = refl; now_is = refl }
 
-pub goes_on : (whole : NodeTrees) (first : Cursor) (start : Walking) (begun written more : List NodeTree) (place : Place) (moves next : Moves) (x : NodeTree) (xs : NodeTrees) (now then : Walking) →
-    IsAlong whole first start begun written place moves (node_then x xs) now → ((k : Cursor) → IsCursor k place moves → IsWalked (walk_node x k now) written more next then) →
-    IsAlong whole first start begun more place next xs then
-goes_on whole first start begun written more place moves next x xs now then a step =
+pub goes_on : (whole : NodeTrees) (first : Cursor) (start : Walking) (begun written more : List NodeTree) (place : Place) (moves next : Moves) (x : NodeTree) (xs : NodeTrees) (now later : Walking) →
+    IsAlong whole first start begun written place moves (node_then x xs) now → ((k : Cursor) → IsCursor k place moves → IsWalked (walk_node x k now) written more next later) →
+    IsAlong whole first start begun more place next xs later
+goes_on whole first start begun written more place moves next x xs now later a step =
     let h = step a.cursor a.is in
     let s : WrittenNodes = walk_node x a.cursor now in
     let k : Cursor = after s a.cursor in
