@@ -1,5 +1,5 @@
 -- What is written with what is left makes the whole, node by node.
-use Rattle.std.proofs.Common.{◌≡◌, ◌<◌, ◌≤◌, ◌+◌, ◌*◌, arith, if◌then◌else◌, Bool, true, false, ℕ, suc, List, [], ◌∷◌, ◌++◌, map, refl, sym, ap, ap₂, subst, ◌∙◌}
+use Rattle.std.proofs.Common.{◌≡◌, ◌<◌, ◌≤◌, ◌+◌, ◌*◌, arith, if◌then◌else◌, Bool, true, false, ℕ, suc, List, [], ◌∷◌, ◌++◌, map, length, refl, sym, ap, ap₂, subst, ◌∙◌}
 use denote.Param.Weighed.{most}
 use Rattle.std.proofs.lemmas.List.{append_assoc}
 use Rattle.std.specs.Prelude.{OnOk}
@@ -14,7 +14,7 @@ use Rattle.g_graph.specs.Plain.{RegionTree, region, NodeTree, node, NodeTrees, n
 use Rattle.g_graph.specs.Splice.{joined_nodes}
 use Rattle.g_graph.proofs.lemmas.Splices as splices
 use Rattle.g_graph.proofs.lemmas.Splices.{joined_assoc, nodes_of_append}
-use Rattle.r_push_laws.specs.Walk.{Exit, exit_of, Cursor, Walking, WrittenNodes, WrittenRegions, leaves, node_now, gone, stayed, widened_by, entered, after, at_start, walk_nodes, walk_node, walk_region, walk_regions}
+use Rattle.r_push_laws.specs.Walk.{Exit, exit_of, is_loop, Cursor, Walking, WrittenNodes, leaves, gone, stayed, all_grown, outputs_of_left, widened_by, entered, after, at_start, walk_nodes, walk_node, walk_region, walk_regions}
 use Rattle.r_walk.specs.Moves.{AreMoves, origin_in}
 use Rattle.r_walk.specs.Walks.{HasGained}
 use Rattle.r_walk.specs.declared.moves.Moves.{Moves}
@@ -22,6 +22,7 @@ use Rattle.r_walk_def.specs.Context.{joined_regions}
 use Rattle.r_walk_def.specs.Walk.{Moved, origin_now}
 use Rattle.r_push_walk.specs.declared.leaving.Place.{Place}
 use Rattle.r_push_walk.specs.Walks.{IsCursor, IsWalked}
+use Rattle.r_push_walk.proofs.Exits.{exit_so}
 
 pub origin_is : (m : Moves) (ms : List Moved) → AreMoves m ms → (o : Origin) → origin_in m [] o ≡ origin_now ms [] o
 origin_is m ms h (Arg k) = refl
@@ -92,25 +93,30 @@ module _ (id : ℕ) (op : Op) (ins : List Origin) (rs : RegionTrees) (k : Cursor
   node_is t e = ap (λ b. chosen b here) (sym e) ∙ ap (λ os. chosen (leaves k w (node id op os rs)) (node id op os rs)) (origins_are moves k.moved is.moved ins)
 
   -- it leaves
-  pub left_walked : (before after : List NodeTree) (next : Moves) (now : Walking) → leaves k w here ≡ true → IsWalked (gone k w here) before after next now →
-      IsWalked (walk_node (node id op ins rs) k w) before after next now
-  left_walked before after next now e h = subst (λ s. IsWalked s before after next now) (node_is true e) h
+  pub left_walked : (before more : List NodeTree) (next : Moves) (now : Walking) → leaves k w here ≡ true → IsWalked (gone k w here) before more next now →
+      IsWalked (walk_node (node id op ins rs) k w) before more next now
+  left_walked before more next now e h = subst (λ s. IsWalked s before more next now) (node_is true e) h
 
-  -- it stays
-  pub stays_walked : (before left : List NodeTree) (regions : RegionTrees) (inner now : Walking) → leaves k w here ≡ false →
-      record { regions = regions; now = inner } ≡ walk_regions rs (exit_of here) (entered w here) → left ≡ inner.left →
-      now ≡ record w { values = inner.values; steps = inner.steps } →
-      IsWalked (walk_node (node id op ins rs) k w) before (before ++ left ++ widened_by left here regions ∷ []) moves now
-  stays_walked before left regions inner now e walked lefts same =
-      subst (λ s. IsWalked s before (before ++ left ++ widened_by left here regions ∷ []) moves now) (node_is false e)
-      (subst (λ t. IsWalked (stayed k w here t) before (before ++ left ++ widened_by left here regions ∷ []) moves now) walked
+  -- it stays, where its regions are walked so from this state on
+  pub stays_walked : (before more : List NodeTree) (exit : Exit) (from inner : Walking) (regions : RegionTrees) → leaves k w here ≡ false → exit ≡ exit_of (node id op ins rs) →
+      from ≡ entered w here → record { regions = regions; now = inner } ≡ walk_regions rs exit from →
+      more ≡ before ++ inner.left ++ node id op (map (origin_in moves []) ins ++ outputs_of_left inner.left) (all_grown (is_loop exit) (length inner.left) regions) ∷ [] →
+      IsWalked (walk_node (node id op ins rs) k w) before more moves (record w { values = inner.values; steps = inner.steps })
+  stays_walked before more exit from inner regions e out begun walked written =
+      let now : Walking = record w { values = inner.values; steps = inner.steps } in
+      let so : exit ≡ exit_of here = out ∙ exit_so (origin_in moves []) id op ins rs in
+      let new : NodeTree = widened_by inner.left here regions in
+      let same : record { regions = regions; now = inner } ≡ walk_regions rs (exit_of here) (entered w here) = walked ∙ ap₂ (λ x v. walk_regions rs x v) so begun in
+      subst (λ s. IsWalked s before more moves now) (node_is false e)
+      (subst (λ t. IsWalked (stayed k w here t) before more moves now) same
       (record {
-        nodes = ap nodes_of (append_assoc before left (widened_by left here regions ∷ []))
-            ∙ nodes_of_append before (left ++ widened_by left here regions ∷ [])
-            ∙ ap (joined_nodes (nodes_of before)) (nodes_of_append left (widened_by left here regions ∷ []))
-            ∙ ap (λ ys. joined_nodes (nodes_of before) (joined_nodes (nodes_of ys) (node_then (widened_by ys here regions) no_nodes))) lefts;
+        nodes = ap nodes_of
+            (written
+            ∙ ap (λ x. before ++ inner.left ++ node id op (map (origin_in moves []) ins ++ outputs_of_left inner.left) (all_grown (is_loop x) (length inner.left) regions) ∷ []) so
+            ∙ append_assoc before inner.left (new ∷ []))
+            ∙ nodes_of_append before (inner.left ++ new ∷ []) ∙ ap (joined_nodes (nodes_of before)) (nodes_of_append inner.left (new ∷ []));
         moved = is.moved;
-        now_is = same;
+        now_is = refl;
       }))
 
 -- ---- regions one after the other: those made, and what is made of the rest

@@ -1,4 +1,4 @@
 mod Along
 mod Exits
-mod Leaving
-mod Staying
+mod Growth
+mod Left

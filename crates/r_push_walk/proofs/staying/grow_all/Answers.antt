@@ -3,7 +3,7 @@ use Rattle.std.proofs.Common.{◌<◌, ◌≤◌, sym, ap, ◌∙◌, length, ar
 use Rattle.g_graph.specs.Plain.{regions_of}
 use Rattle.g_graph.proofs.lemmas.Mapped.{mapped_none, mapped_more, mapped_all}
 use Rattle.r_push_laws.specs.Walk.{grown}
-use Rattle.r_push_walk.proofs.Staying.{grown_are}
+use Rattle.r_push_walk.proofs.Growth.{grown_are}
 use Rattle.r_push_walk.proofs.staying.grow_all.Goals as goal
 
 pub loop-i-init : goal.loop-i-init
