@@ -1,13 +1,12 @@
 -- Regions with more arguments, and those that a node left.
-use Rattle.std.proofs.Common.{◌≡◌, ℕ, zero, suc, ◌+◌, ◌==◌, ◌||◌, Bool, true, false, if◌then◌else◌, List, [], ◌∷◌, ◌++◌, map, length, refl, sym, ap, ap₂, subst, ◌∙◌, arith}
+use Rattle.std.proofs.Common.{◌≡◌, ℕ, zero, suc, ◌+◌, ◌||◌, Bool, true, false, if◌then◌else◌, List, [], ◌∷◌, ◌++◌, map, length, refl, ap, ap₂, subst, ◌∙◌, arith}
 use Rattle.std.proofs.lemmas.List.{length-append, map-append}
 use Rattle.g_graph.specs.declared.op.Kind.{Kind}
 use Rattle.g_graph.specs.declared.op.Kind.TheVariants.{Value}
 use Rattle.g_graph.specs.declared.op.Origin.{Origin}
 use Rattle.g_graph.specs.declared.op.Origin.TheVariants.{Arg, Out}
 use Rattle.g_graph.specs.Count.{region_values, regions_values}
-use Rattle.g_graph.specs.Ids.{region_ids, nodes_ids, regions_ids}
-use Rattle.g_graph.specs.Nodes.{is_used, nodes_use}
+use Rattle.g_graph.specs.Ids.{region_ids, regions_ids}
 use Rattle.g_graph.specs.Plain.{RegionTree, region, NodeTrees, RegionTrees, no_regions, region_then, count_of}
 use Rattle.g_graph.specs.Scope.{same_origin}
 use Rattle.g_graph.specs.WellFormed.{some_of}

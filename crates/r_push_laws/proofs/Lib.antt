@@ -4,4 +4,6 @@ mod Pushed
 mod Rooms
 mod Inner
 mod Tested
+mod Node
 mod Walks
+mod Examples

@@ -1,50 +1,48 @@
 -- The walk at one node: what is written for it, and for the nodes in it, is what the sweep makes of them.
 use Rattle.std.specs.Prelude.{◌||◌}
-use Rattle.std.proofs.Common.{◌≡◌, ◌≢◌, ℕ, zero, suc, ◌+◌, ◌^◌, nat_lt, ◌==◌, ◌&&◌, Bool, true, false, cond, if◌then◌else◌, List, [], ◌∷◌, ◌++◌, map, length, slice_get, unwrap_or, refl, sym, ap, ap₂, subst, ◌∙◌, inl, inr, arith}
-use Rattle.std.proofs.lemmas.Bool.{and_parts}
+use Rattle.std.proofs.Common.{◌≡◌, ◌≢◌, ℕ, zero, suc, ◌+◌, ◌^◌, nat_lt, ◌==◌, ◌&&◌, Bool, true, false, cond, if◌then◌else◌, List, [], ◌∷◌, ◌++◌, map, length, slice_get, unwrap_or, refl, sym, ap, ap₂, subst, ◌∙◌, inl, arith}
 use Rattle.std.proofs.lemmas.Bool.Decides.{nat_tests}
-use Rattle.std.proofs.lemmas.List.{append_assoc, append-nil, map-append}
-use Rattle.std.proofs.lemmas.List.Sums.{fold-append}
+use Rattle.std.proofs.lemmas.List.{append_assoc, append-nil, map-append, length-append}
 use Rattle.g_graph.specs.declared.op.Kind.{Kind}
 use Rattle.g_graph.specs.declared.op.Op.{Op}
-use Rattle.g_graph.specs.declared.op.Op.TheVariants.{Gamma, Theta}
 use Rattle.g_graph.specs.declared.op.Origin.{Origin}
 use Rattle.g_graph.specs.declared.op.Origin.TheVariants.{Arg, Out}
-use Rattle.g_graph.specs.Ids.{region_ids, node_ids, nodes_ids, regions_ids}
+use Rattle.g_graph.specs.Ids.{node_ids, nodes_ids, regions_ids}
 use Rattle.g_graph.specs.Nodes.{is_used}
 use Rattle.g_graph.specs.Plain.{RegionTree, region, NodeTree, node, NodeTrees, no_nodes, node_then, RegionTrees, no_regions, region_then, id_of, nodes_of, has_none, PlainLambda}
 use Rattle.g_graph.specs.Program.{lambda_values}
 use Rattle.g_graph.specs.Replace.{node_redirected, nodes_redirected, origin_replaced}
 use Rattle.g_graph.specs.Signatures.{is_pure}
 use Rattle.g_graph.specs.Splice.{args_to_inputs, joined_nodes}
-use Rattle.g_graph.specs.WellFormed.{all_of, IsWellFormed}
-use Rattle.g_graph.proofs.lemmas.Redirects.{nodes_ids-redirected, nodes_unmoved, all_unmoved}
-use Rattle.g_graph.proofs.lemmas.Splices.{joined_assoc, joined_none}
+use Rattle.g_graph.specs.WellFormed.{all_of, IsWellFormed, distinct}
+use Rattle.g_graph.proofs.lemmas.Redirects.{nodes_ids-redirected}
+use Rattle.g_graph.proofs.lemmas.Splices.{joined_assoc, joined_none, nodes_ids-joined}
 use Rattle.g_mean.specs.Copies.{IsAmong, known_after, is_argument}
 use Rattle.g_mean.specs.Edits.{IsPartOf}
-use Rattle.g_mean.proofs.lemmas.Copies.{among-left, among-right, test-other}
-use Rattle.g_mean.proofs.lemmas.Holds.{id-among}
+use Rattle.g_mean.proofs.lemmas.Copies.{among-right, test-other}
+use Rattle.g_mean.proofs.lemmas.Holds.{distinct-apart}
 use Rattle.g_mean.proofs.lemmas.Inside.{inputs-read}
 use Rattle.g_mean.proofs.lemmas.Splices.{joined-read}
 use Rattle.r_edit.specs.Size.{may_change_size}
 use Rattle.r_push.specs.Edit.{outer}
 use Rattle.r_push.specs.Rule.{psh}
 use Rattle.r_push.proofs.Stays.{known-own}
-use Rattle.r_push_laws.specs.Laws.{push_change, WalkIsSweep}
-use Rattle.r_push_laws.specs.Walk.{Exit, choice, loop, shut, exit_of, is_open, is_loop, growth_of, Walking, Cursor, WrittenNodes, WrittenRegion, WrittenRegions, goes_along, leaves, node_now, gone, grown_by_one, grown, all_grown, outputs_of_left, widened_by, stayed, entered, after, both_written, at_start, walk_region, walk_regions, walk_nodes, walk_node, walked}
-use Rattle.r_push_laws.proofs.Around.{IsAround, body_around}
-use Rattle.r_push_laws.proofs.Grown.{grown_args, grown_results, grown_is, grown_mapped, all_grown_joined, none_grown}
-use Rattle.r_push_laws.proofs.Inner.{outer_regions, inner_room}
-use Rattle.r_push_laws.proofs.Pushed.{leaves_now, without}
-use Rattle.r_push_laws.proofs.Rooms.{HasLeft, IsRoom, body_room}
+use Rattle.r_push_laws.specs.Laws.{push_change}
+use Rattle.r_push_laws.specs.Walk.{Exit, exit_of, is_open, is_loop, growth_of, Walking, Cursor, WrittenNodes, WrittenRegions, goes_along, leaves, gone, grown_by_one, grown, all_grown, outputs_of_left, widened_by, stayed, entered, after, walk_regions, walk_node}
+use Rattle.r_push_laws.proofs.Around.{IsAround}
+use Rattle.r_push_laws.proofs.Grown.{grown_args, grown_results, grown_is, grown_mapped, none_grown, grown_args_many, grown_results_many}
+use Rattle.r_push_laws.proofs.Inner.{outer_regions}
+use Rattle.r_push_laws.proofs.Pushed.{leaves_now, without, test_of}
+use Rattle.r_push_laws.proofs.Rooms.{HasLeft, IsRoom}
 use Rattle.r_push_laws.proofs.Tested.{all_along, used_is}
-use Rattle.r_sweep_def.specs.Swept.{Logged, tried_by, swept_by}
+use Rattle.r_sweep_def.specs.Swept.{Logged, swept_by}
 use Rattle.r_walk_def.specs.Context.{joined_regions}
 use Rattle.r_walk_def.specs.Walk.{Moved, output_now, origin_now, inputs_of_nodes, is_in}
 use Rattle.r_walk_laws.proofs.lemmas.Contexts.{whole_part}
 use Rattle.r_walk_laws.proofs.lemmas.Local.{not_in_before, not_in_after}
-use Rattle.r_walk_laws.proofs.lemmas.Moves.{IsAhead, ahead_less, argument_now, nothing_moved, both_moves, origins_twice, nodes_twice, inputs-redirected}
+use Rattle.r_walk_laws.proofs.lemmas.Moves.{IsAhead, ahead_less, argument_now, both_moves, origins_twice, nodes_twice, inputs-redirected}
 use Rattle.r_walk_laws.proofs.lemmas.Uses.{in_append, in_moved, not_read, nodes_not_read}
+use Rattle.g_graph.specs.declared.steps.Rule.TheVariants.{Push}
 
 abbrev pub logged : PlainLambda → Walking → Logged
 logged l w = record { lambda = l; steps = w.steps }
@@ -69,7 +67,9 @@ replaced_is n a (Out m p) = by (n == m) refl p
         and_true : (s : Bool) → (s && true) ≡ s
         and_true true = refl
         and_true false = refl
-    by t e (suc p) = both (n == m) (m == n)
+    by t e (suc p) =
+        let other : (0 == suc p) ≡ false = grind (arith, nat_tests) in
+        ap (λ s. cond ((n == m) && s) (Arg a) (Out m (suc p))) other ∙ both (n == m) (m == n)
       where
         both : (s u : Bool) → cond (s && false) (Arg a) (Out m (suc p)) ≡ cond u (Out m (suc p)) (Out m (suc p))
         both true true = refl

@@ -1,7 +1,7 @@
 -- What comes in the place of a node that a number of one of its regions leaves.
 use Rattle.std.specs.Option.{option_or}
 use Rattle.std.specs.Prelude.{option_and_then}
-use Rattle.std.proofs.Common.{◌≡◌, ℕ, zero, suc, ◌+◌, ◌^◌, nat_lt, ◌==◌, ◌&&◌, ◌||◌, Bool, true, false, cond, if◌then◌else◌, List, [], ◌∷◌, ◌++◌, map, length, Option, None, Some, option_map, refl, sym, ap, ap₂, subst, ◌∙◌, arith}
+use Rattle.std.proofs.Common.{◌≡◌, ℕ, suc, ◌+◌, ◌^◌, nat_lt, ◌&&◌, Bool, true, false, cond, if◌then◌else◌, List, [], ◌∷◌, ◌++◌, map, length, Option, None, Some, option_map, refl, sym, ap, ap₂, subst, ◌∙◌, arith}
 use Rattle.std.proofs.lemmas.Bool.{or_parts}
 use Rattle.std.proofs.lemmas.List.{length-append, length-map}
 use Rattle.g_graph.specs.declared.op.Kind.{Kind}
@@ -12,9 +12,8 @@ use Rattle.g_graph.specs.declared.op.Origin.{Origin}
 use Rattle.g_graph.specs.declared.op.Origin.TheVariants.{Arg, Out}
 use Rattle.g_graph.specs.Change.{has_node}
 use Rattle.g_graph.specs.Ids.{nodes_ids, regions_ids}
-use Rattle.g_graph.specs.Nodes.{node_at}
 use Rattle.g_graph.specs.Plain.{RegionTree, region, NodeTree, node, NodeTrees, no_nodes, node_then, RegionTrees, no_regions, region_then, id_of, args_of, nodes_in, results_of, regions_in, count_of}
-use Rattle.g_graph.specs.Count.{region_values, node_values, nodes_values, regions_values}
+use Rattle.g_graph.specs.Count.{region_values, node_values, nodes_values}
 use Rattle.g_graph.specs.Replace.{node_redirected, nodes_redirected, origin_replaced}
 use Rattle.g_graph.specs.Signatures.{outputs_of, result_kinds}
 use Rattle.g_graph.specs.Splice.{args_to_inputs, joined_nodes}
@@ -27,7 +26,7 @@ use Rattle.g_mean.specs.Copies.{IsAmong, IsClosed, AllClosed}
 use Rattle.r_edit.specs.Added.{result_added}
 use Rattle.r_edit.specs.Size.{may_change_size}
 use Rattle.r_push.specs.Edit.{outer}
-use Rattle.r_push.specs.Rule.{names_argument, may_leave, only, leaving, leaving_one, is_invariant, leaving_loop, carried, regions_carried, looped, placed, growth, can_all_count, can_count, pushed, pushed_within, nodes_pushed, psh_here}
+use Rattle.r_push.specs.Rule.{names_argument, may_leave, only, leaving, leaving_one, is_invariant, carried, regions_carried, looped, placed, growth, can_all_count, can_count, pushed, pushed_within, nodes_pushed, psh_here}
 use Rattle.r_push.proofs.Gammas.{AllTake}
 use Rattle.r_push.proofs.Taken.{carried-is}
 use Rattle.r_push_laws.specs.Walk.{Exit, shut, choice, loop, exit_of, is_open, is_loop, growth_of, grown_by_one, grown, all_grown, outputs_of_left}

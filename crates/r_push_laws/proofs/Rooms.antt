@@ -1,42 +1,27 @@
 -- A room is what is around a region while nodes leave it: it tells what a step at a node of the region makes of the lambda.
 use Rattle.std.specs.Option.{option_or}
 use Rattle.std.specs.Prelude.{is_some}
-use Rattle.std.proofs.Common.{◌≡◌, ℕ, suc, ◌+◌, ◌==◌, ◌||◌, Bool, true, false, if◌then◌else◌, List, [], ◌∷◌, ◌++◌, map, length, Option, None, Some, option_map, unwrap_or, ◌&&◌, ◌^◌, nat_lt, refl, sym, ap, ap₂, subst, ◌∙◌, inr, arith}
-use Rattle.std.proofs.lemmas.Bool.{and_parts}
-use Rattle.std.proofs.lemmas.List.{length-append, map-append, append_assoc}
+use Rattle.std.proofs.Common.{◌≡◌, ℕ, suc, ◌+◌, ◌||◌, true, false, List, [], ◌∷◌, ◌++◌, length, None, option_map, sym, ap, ap₂, subst, ◌∙◌}
 use Rattle.g_graph.specs.declared.op.Kind.{Kind}
-use Rattle.g_graph.specs.declared.op.Kind.TheVariants.{Value}
-use Rattle.g_graph.specs.declared.op.Op.{Op}
-use Rattle.g_graph.specs.declared.op.Op.TheVariants.{Gamma, Theta}
 use Rattle.g_graph.specs.declared.op.Origin.{Origin}
-use Rattle.g_graph.specs.declared.op.Origin.TheVariants.{Out}
-use Rattle.g_graph.specs.Change.{region_changed, node_changed, nodes_changed}
-use Rattle.g_graph.specs.Count.{region_values, node_values, nodes_values}
+use Rattle.g_graph.specs.Change.{region_changed, node_changed}
 use Rattle.g_graph.specs.Ids.{node_ids, nodes_ids, regions_ids}
-use Rattle.g_graph.specs.Plain.{RegionTree, region, NodeTree, node, NodeTrees, no_nodes, node_then, RegionTrees, no_regions, region_then, id_of, args_of, results_of, nodes_of, regions_in, PlainLambda}
+use Rattle.g_graph.specs.Plain.{RegionTree, region, NodeTree, node, NodeTrees, node_then, id_of, args_of, results_of, regions_in, PlainLambda}
 use Rattle.g_graph.specs.Program.{lambda_values}
 use Rattle.g_graph.specs.Replace.{node_redirected}
-use Rattle.g_graph.specs.Scope.{known}
-use Rattle.g_graph.specs.Signatures.{first_args, result_kinds, output_kinds}
 use Rattle.g_graph.specs.Splice.{args_to_inputs, joined_nodes}
-use Rattle.g_graph.specs.WellFormed.{are, kinds_of, distinct, IsWellFormed}
-use Rattle.g_graph.proofs.lemmas.Splices.{joined_assoc, nodes_of_append, nodes_ids-joined, nodes_values-joined}
+use Rattle.g_graph.specs.WellFormed.{IsWellFormed}
+use Rattle.g_graph.proofs.lemmas.Splices.{nodes_ids-joined}
 use Rattle.g_mean.specs.Copies.{IsAmong}
-use Rattle.g_mean.specs.Edits.{IsPartOf}
 use Rattle.g_mean.proofs.lemmas.Copies.{among-left, among-right}
 use Rattle.g_mean.proofs.lemmas.Holds.{id-among}
-use Rattle.g_mean.proofs.lemmas.Inside.{node-here, as-many, regions-closed}
-use Rattle.r_push.specs.Edit.{outer}
-use Rattle.r_edit.specs.Size.{may_change_size}
-use Rattle.r_push.specs.Rule.{may_leave, pushed_within, nodes_pushed, psh_here, applies, psh}
-use Rattle.r_push.proofs.Gammas.{AllTake}
-use Rattle.r_push.proofs.Replaced.{take-all}
-use Rattle.r_push_laws.specs.Walk.{Exit, shut, choice, loop, exit_of, is_open, is_loop, growth_of, all_grown, outputs_of_left}
-use Rattle.r_push_laws.proofs.Around.{nodes_hold, regions_lack, nodes_lack, nodes_hold-joined, none_around, IsApart, apart_here, in_outer, own_lack, nodes_inside, IsAround, body_around, inner_around}
-use Rattle.r_push_laws.proofs.Pushed.{psh_around, nodes_pushed_at, test_of, leaves_now, without, two, IsHere, pushed_at, values_at}
-use Rattle.r_walk_def.specs.Context.{joined_regions, IsContext}
-use Rattle.r_walk_laws.proofs.lemmas.Contexts.{map_twice, nodes_changed_within, regions_unchanged_without, whole_part}
-use Rattle.r_walk_laws.proofs.lemmas.Local.{not_in_before, not_in_after, not_inside, not_before}
+use Rattle.r_push.specs.Rule.{psh_here, applies, psh}
+use Rattle.r_push_laws.specs.Walk.{Exit, shut, is_open, is_loop, growth_of, outputs_of_left}
+use Rattle.r_push_laws.proofs.Around.{regions_lack, nodes_lack, nodes_hold-joined, none_around, IsAround, body_around}
+use Rattle.r_push_laws.proofs.Pushed.{psh_around, leaves_now, without}
+use Rattle.r_walk_def.specs.Context.{IsContext}
+use Rattle.r_walk_laws.proofs.lemmas.Contexts.{nodes_changed_within, regions_unchanged_without}
+use Rattle.r_walk_laws.proofs.lemmas.Local.{not_in_before, not_in_after, not_inside}
 
 -- ---- what a room tells
 

@@ -1,6 +1,6 @@
 -- The walk asks of a node what the rule asks.
 use Rattle.std.specs.Prelude.{◌||◌}
-use Rattle.std.proofs.Common.{◌≡◌, ℕ, zero, suc, ◌+◌, ◌<◌, ◌≤◌, nat_lt, ◌==◌, ◌&&◌, Bool, true, false, if◌then◌else◌, List, [], ◌∷◌, ◌++◌, map, length, slice_get, Option, None, Some, option_map, refl, sym, ap, ap₂, ◌∙◌, arith}
+use Rattle.std.proofs.Common.{◌≡◌, ℕ, zero, suc, ◌<◌, ◌≤◌, nat_lt, ◌==◌, ◌&&◌, Bool, true, false, if◌then◌else◌, List, [], ◌∷◌, ◌++◌, map, length, slice_get, Option, None, Some, option_map, refl, sym, ap, ap₂, ◌∙◌, arith}
 use Rattle.std.proofs.lemmas.Bool.Decides.{nat_tests}
 use Rattle.std.proofs.lemmas.List.{length-append}
 use Rattle.std.proofs.lemmas.Option.{slice_get-map}
@@ -13,7 +13,6 @@ use Rattle.g_graph.specs.Plain.{region, node, NodeTrees, no_nodes, node_then}
 use Rattle.g_graph.specs.Scope.{same_origin}
 use Rattle.g_graph.specs.Splice.{joined_nodes}
 use Rattle.g_graph.specs.WellFormed.{all_of, some_of, is_origin}
-use Rattle.r_push.specs.Rule.{is_invariant}
 use Rattle.r_push_laws.specs.Walk.{Exit, shut, choice, loop, is_open, is_loop, Cursor, is_kept, moved_result, goes_along}
 use Rattle.r_push_laws.proofs.Grown.{grown_args, grown_results, grown_args_many, grown_results_many, some_grown}
 use Rattle.r_push_laws.proofs.Pushed.{test_of}
