@@ -1,14 +1,19 @@
--- The exit of the regions of a Theta, and the values that come.
+-- The exit of the regions of a node, and the values that come.
 use Rattle.std.specs.Prelude.{nat_le}
-use Rattle.std.proofs.Common.{◌≡◌, ◌≢◌, ◌||◌, ◌+◌, ◌<◌, ◌^◌, ℕ, Bool, true, false, List, [], ◌∷◌, map, length, refl, arith}
+use Rattle.std.proofs.Common.{◌≡◌, ◌≢◌, ◌||◌, ◌+◌, ◌<◌, ◌^◌, ℕ, Bool, true, false, List, [], ◌∷◌, map, length, refl, sym, ap, ◌∙◌, arith}
 use Rattle.std.proofs.lemmas.Bool.Decides.{nat_tests}
 use Rattle.limits.specs.Limits.{most_grown_values}
 use Rattle.g_graph.specs.declared.op.Op.{Op}
 use Rattle.g_graph.specs.declared.op.Op.TheVariants.{Gamma, Theta}
 use Rattle.g_graph.specs.declared.op.Origin.{Origin}
 use Rattle.g_graph.specs.Plain.{RegionTree, RegionTrees, no_regions, region_then, node, regions_of}
+use Rattle.g_graph.proofs.lemmas.Listed.{count_is}
 use Rattle.r_edit.specs.Size.{may_change_size}
-use Rattle.r_push_laws.specs.Walk.{exit_of, shut, loop}
+use Rattle.r_push_laws.specs.Walk.{exit_of, shut, choice, loop}
+
+pub many_choose : (id : ℕ) (ins : List Origin) (rs : List RegionTree) (count : ℕ) → count ≡ length rs → length ins ≢ 0 → choice count ≡ exit_of (node id Gamma ins (regions_of rs))
+many_choose id [] rs count e h = absurd (h refl)
+many_choose id (p ∷ entries) rs count e h = ap choice (e ∙ sym (count_is rs))
 
 pub one_loops : (id : ℕ) (ins : List Origin) (rs : List RegionTree) → length rs ≡ 1 → exit_of (node id Theta ins (regions_of rs)) ≡ loop
 one_loops id ins [] h = absurd cc

@@ -1,5 +1,5 @@
 -- A node that leaves: what is outside then, and what uses of it become.
-use Rattle.std.proofs.Common.{◌≡◌, ◌==◌, ◌+◌, ◌<◌, ◌^◌, ℕ, Bool, true, false, if◌then◌else◌, List, [], ◌∷◌, ◌++◌, length, slice_get, unwrap_or, sym, ap, ◌∙◌}
+use Rattle.std.proofs.Common.{◌≡◌, ◌==◌, ◌&&◌, ◌+◌, ℕ, Bool, true, false, if◌then◌else◌, List, [], ◌∷◌, ◌++◌, length, slice_get, unwrap_or, sym, ap, ◌∙◌}
 use Rattle.g_graph.specs.declared.op.Origin.TheVariants.{Arg, Out}
 use Rattle.g_graph.specs.declared.steps.Rule.TheVariants.{Push}
 use Rattle.g_graph.specs.Plain.{NodeTree, id_of, nodes_of}
@@ -21,3 +21,11 @@ gone_walked k place moves next w now x before is noted values steps inputs left 
   moved = λ n p. noted n p ∙ ap (λ o. if n == id_of x then unwrap_or (slice_get (Arg (length w.inputs) ∷ []) p) (Out n p) else o) (is.moved n p);
   now_is = λ i. record { values = (values ∙ ap (λ e. w.values + growth_of e) (sym is.exit_is)) i; steps = steps i; inputs = inputs i; left = left i };
 }
+
+-- ---- tests one after the other
+
+pub both_hold : (v a b p q : Bool) → a ≡ true → v ≡ b → a ≡ p → b ≡ q → v ≡ (p && q)
+both_hold v a b p q t e f g = e ∙ g ∙ ap (λ x. x && q) (sym t ∙ f)
+
+pub first_fails : (v a p q : Bool) → a ≡ false → v ≡ false → a ≡ p → v ≡ (p && q)
+first_fails v a p q t e f = e ∙ ap (λ x. x && q) (sym t ∙ f)

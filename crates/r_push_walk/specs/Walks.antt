@@ -1,7 +1,8 @@
 -- What the parts of the walk promise.
 use Rattle.std.specs.Prelude.{◌≡◌, ◌+◌, ◌<◌, ◌^◌, ℕ, true, List, length}
 use Rattle.g_graph.specs.declared.steps.Step.{Step}
-use Rattle.g_graph.specs.Plain.{NodeTree, RegionTrees, nodes_of, has_none}
+use Rattle.g_graph.specs.declared.op.Origin.{Origin}
+use Rattle.g_graph.specs.Plain.{NodeTree, node, RegionTrees, id_of, op_of, nodes_of, has_none}
 use Rattle.g_graph.specs.Splice.{joined_nodes}
 use Rattle.r_push_laws.specs.Walk.{Exit, shut, choice, loop, growth_of, Cursor, Walking, WrittenNodes}
 use Rattle.r_walk.specs.declared.moves.Moves.{Moves}
@@ -20,6 +21,10 @@ exit_in Loop = loop
 
 abbrev pub walking : (values : ℕ) → Outside → List Step → Walking
 walking values outside steps = record { values = values; steps = steps; inputs = outside.inputs.items; left = outside.left.items }
+
+-- a node with these inputs and regions
+abbrev pub remade : NodeTree → (inputs : List Origin) → RegionTrees → NodeTree
+remade x inputs rs = node (id_of x) (op_of x) inputs rs
 
 -- The place and the moves of a walk are those of a cursor.
 pub record IsCursor (k : Cursor) (place : Place) (moves : Moves) : Type 0 where

@@ -1,18 +1,17 @@
 //! Nodes that leave a region.
 
-ghost use Rattle.std.specs.Prelude.{◌≡◌, ◌&&◌, ◌+◌, ◌<◌, ◌^◌, suc, true, nat_lt, List, OnOk, slice_get};
-ghost use Rattle.g_graph.specs.declared.op.Origin.TheVariants.{Arg};
+ghost use Rattle.std.specs.Prelude.{◌≡◌, ◌&&◌, ◌^◌, [], ◌∷◌, suc, true, nat_lt, List, IfOk, OnOk, slice_get};
 ghost use Rattle.g_graph.specs.declared.steps.Step.{Step};
-ghost use Rattle.g_graph.specs.Plain.{NodeTree, node, id_of, op_of, regions_in, regions_of, has_none};
+ghost use Rattle.g_graph.specs.Plain.{NodeTree, regions_in, regions_of, has_none};
 ghost use Rattle.g_graph.specs.Replace.{node_redirected};
 ghost use Rattle.g_graph.specs.Splice.{args_to_inputs};
 ghost use Rattle.g_graph.specs.WellFormed.{all_of};
 ghost use Rattle.r_edit.specs.Size.{may_change_size};
 ghost use Rattle.r_push_laws.specs.Walk.{Cursor, is_open, growth_of, is_kept, moved_result, goes_along, leaves, gone};
-ghost use Rattle.r_walk.specs.Moves.{AreMoves, origin_in};
+ghost use Rattle.r_walk.specs.Moves.{AreMoves};
 ghost use Rattle.r_walk.specs.Walks.{HasGained};
-ghost use Rattle.r_walk_def.specs.Walk.{Moved};
-ghost use Rattle.r_push_walk.specs.Walks.{exit_in, walking, IsCursor, IsWalked, HasRoom};
+ghost use Rattle.r_walk_def.specs.Walk.{Moved, origin_now};
+ghost use Rattle.r_push_walk.specs.Walks.{exit_in, walking, remade, IsCursor, IsWalked, HasRoom};
 
 use crate::exit::Exit;
 use g_graph::{
@@ -53,7 +52,7 @@ pub fn leaves(
 ) -> bool
     ensures is { (k : Cursor) (steps : List Step) → IsCursor k place.now moves.now →
         result ≡ leaves k (walking values outside.now steps)
-        (node (id_of node.now) (op_of node.now) reads.now (regions_in node.now)) }
+        (remade node.now reads.now (regions_in node.now)) }
     ensures room { result ≡ true →
         HasRoom place.now.exit values outside.now (regions_in node.now) }
 {
@@ -142,7 +141,7 @@ pub fn leave(
     requires { HasRoom place.now.exit values.old outside.old (regions_in node.now) }
     ensures ok { OnOk result ((k : Cursor) (before : List NodeTree) → IsCursor k place.now moves.old →
         IsWalked (gone k (walking values.old outside.old log.old.items)
-        (node (id_of node.now) (op_of node.now) reads.items (regions_in node.now)))
+        (remade node.now reads.items (regions_in node.now)))
         before before moves.new (walking values.new outside.new log.new.items)) }
     ensures gained { HasGained log.old.items log.new.items }
 {
@@ -166,7 +165,7 @@ pub fn leave(
 fn moved(alloc: Global, node: &Node, reads: SmallVec<Origin, 4>, outer: &[Origin]) -> Node
     requires { has_none (regions_in node.now) ≡ true }
     ensures { result ≡ node_redirected (args_to_inputs outer.now)
-        (node (id_of node.now) (op_of node.now) reads.items (regions_in node.now)) }
+        (remade node.now reads.items (regions_in node.now)) }
 {
     let mut inputs = reads;
     redirect_origins(inputs.as_mut_slice(), &ArgsToInputs { inputs: outer });

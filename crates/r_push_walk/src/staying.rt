@@ -1,10 +1,10 @@
 //! Nodes that stay in a region, and what nodes leave.
 
-ghost use Rattle.std.specs.Prelude.{◌≡◌, ◌++◌, ◌∷◌, [], List, IfOk, OnOk, length};
-ghost use Rattle.g_graph.specs.Plain.{node, id_of, op_of, regions_of};
+ghost use Rattle.std.specs.Prelude.{◌≡◌, ◌++◌, ◌∷◌, [], ℕ, IfOk, OnOk, length};
+ghost use Rattle.g_graph.specs.Plain.{RegionTrees, node, regions_of};
 ghost use Rattle.r_push.specs.Edit.{outer};
 ghost use Rattle.r_push_laws.specs.Walk.{is_loop, grown_by_one, grown, all_grown, outputs_of_left};
-ghost use Rattle.r_push_walk.specs.Walks.{exit_in};
+ghost use Rattle.r_push_walk.specs.Walks.{exit_in, remade};
 
 use crate::exit::Exit;
 use crate::leaving::Outside;
@@ -51,7 +51,7 @@ pub fn write(
     written: &mut Vec<Node>,
 ) -> Result<(), NoMemory>
     ensures { OnOk result (written.new.items ≡ written.old.items ++ left.items
-        ++ node (id_of node.now) (op_of node.now) (reads.items ++ outputs_of_left left.items)
+        ++ remade node.now (reads.items ++ outputs_of_left left.items)
         (all_grown (is_loop (exit_in exit)) (length left.items) (regions_of regions.items)) ∷ []) }
 {
     let mut left = left;
@@ -69,7 +69,7 @@ fn widened(
     regions: Vec<Region>,
     left: &[Node],
 ) -> Result<Node, NoMemory>
-    ensures { IfOk result (λ made. made ≡ node (id_of node.now) (op_of node.now)
+    ensures { IfOk result (λ made. made ≡ remade node.now
         (reads.items ++ outputs_of_left left.now)
         (all_grown (is_loop (exit_in exit)) (length left.now) (regions_of regions.items))) }
 {

@@ -1,9 +1,8 @@
 //! The walk.
 
-ghost use Rattle.std.specs.Prelude.{◌≡◌, [], List, IfOk, OnOk, map};
-ghost use Rattle.g_graph.specs.declared.op.Origin.{Origin};
+ghost use Rattle.std.specs.Prelude.{◌≡◌, ◌++◌, [], ℕ, IfOk, OnOk, map};
+ghost use Rattle.g_graph.specs.declared.op.Origin.TheVariants.{Out};
 ghost use Rattle.g_graph.specs.Plain.{nodes_of, regions_of, nodes_in, inputs_in, results_of};
-ghost use Rattle.g_graph.specs.declared.steps.Step.{Step};
 ghost use Rattle.r_push_laws.specs.Walk.{Cursor, walk_region, walk_regions, walk_nodes, walk_node, walked};
 ghost use Rattle.r_walk.specs.Around.{AreUses};
 ghost use Rattle.r_walk.specs.Moves.{output_in, origin_in};
