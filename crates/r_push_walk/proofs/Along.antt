@@ -7,21 +7,23 @@ use Rattle.std.specs.declared.result.Result.{Result}
 use Rattle.std.specs.declared.result.Result.TheVariants.{Ok, Err}
 use Rattle.g_graph.specs.declared.op.Kind.{Kind}
 use Rattle.g_graph.specs.declared.op.Op.{Op}
+use Rattle.g_graph.specs.declared.op.Op.TheVariants.{Gamma}
 use Rattle.g_graph.specs.declared.op.Origin.{Origin}
 use Rattle.g_graph.specs.declared.op.Origin.TheVariants.{Arg, Out}
 use Rattle.g_graph.specs.declared.steps.Step.{Step}
-use Rattle.g_graph.specs.Plain.{RegionTree, region, NodeTree, node, NodeTrees, no_nodes, node_then, RegionTrees, no_regions, region_then, nodes_of, regions_of, region_size, node_size, nodes_size}
+use Rattle.g_graph.specs.Plain.{RegionTree, region, NodeTree, node, NodeTrees, no_nodes, node_then, RegionTrees, no_regions, region_then, nodes_of, regions_of, inputs_in, regions_in, region_size, node_size, nodes_size}
 use Rattle.g_graph.specs.Splice.{joined_nodes}
 use Rattle.g_graph.proofs.lemmas.Splices as splices
 use Rattle.g_graph.proofs.lemmas.Splices.{joined_assoc, nodes_of_append}
-use Rattle.r_push_laws.specs.Walk.{Exit, exit_of, is_loop, Cursor, Walking, WrittenNodes, leaves, gone, stayed, all_grown, outputs_of_left, widened_by, entered, after, at_start, walk_nodes, walk_node, walk_region, walk_regions}
+use Rattle.r_push.specs.Edit.{outer}
+use Rattle.r_push_laws.specs.Walk.{Exit, exit_of, is_loop, Cursor, Walking, WrittenNodes, leaves, node_now, gone, stayed, all_grown, outputs_of_left, widened_by, entered, after, at_start, walk_nodes, walk_node, walk_region, walk_regions}
 use Rattle.r_walk.specs.Moves.{AreMoves, origin_in}
 use Rattle.r_walk.specs.Walks.{HasGained}
 use Rattle.r_walk.specs.declared.moves.Moves.{Moves}
 use Rattle.r_walk_def.specs.Context.{joined_regions}
 use Rattle.r_walk_def.specs.Walk.{Moved, origin_now}
 use Rattle.r_push_walk.specs.declared.leaving.Place.{Place}
-use Rattle.r_push_walk.specs.Walks.{IsCursor, IsWalked}
+use Rattle.r_push_walk.specs.Walks.{remade, IsCursor, IsWalked}
 use Rattle.r_push_walk.proofs.Exits.{exit_so}
 
 pub origin_is : (m : Moves) (ms : List Moved) → AreMoves m ms → (o : Origin) → origin_in m [] o ≡ origin_now ms [] o
@@ -81,39 +83,51 @@ region_written args nodes results exit start now written moves h =
 
 -- ---- a node
 
-module _ (id : ℕ) (op : Op) (ins : List Origin) (rs : RegionTrees) (k : Cursor) (place : Place) (moves : Moves) (w : Walking) (is : IsCursor k place moves) where
-  -- the node as it is now
-  abbrev pub here : NodeTree
-  here = node id op (map (origin_in moves []) ins) rs
+exit_now : (ms : List Moved) (x : NodeTree) → exit_of x ≡ exit_of (node_now ms x)
+exit_now ms (node id op ins rs) = exit_so (origin_now ms []) id op ins rs
 
-  abbrev chosen : Bool → NodeTree → WrittenNodes
-  chosen t x = if t then gone k w x else stayed k w x (walk_regions rs (exit_of x) (entered w x))
+outer_so : (f : Origin → Origin) (id : ℕ) (op : Op) (ins : List Origin) (rs : RegionTrees) → map f (outer (node id op ins rs)) ≡ outer (node id op (map f ins) rs)
+outer_so f id Gamma [] rs = refl
+outer_so f id Gamma (o ∷ os) rs = refl
+outer_so f id _ ins rs = refl
 
-  node_is : (t : Bool) → leaves k w here ≡ t → chosen t here ≡ walk_node (node id op ins rs) k w
-  node_is t e = ap (λ b. chosen b here) (sym e) ∙ ap (λ os. chosen (leaves k w (node id op os rs)) (node id op os rs)) (origins_are moves k.moved is.moved ins)
+outer_now : (ms : List Moved) (x : NodeTree) → map (origin_now ms []) (outer x) ≡ outer (node_now ms x)
+outer_now ms (node id op ins rs) = outer_so (origin_now ms []) id op ins rs
+
+module _ (k : Cursor) (place : Place) (moves : Moves) (w : Walking) (is : IsCursor k place moves) where
+  abbrev chosen : Bool → RegionTrees → NodeTree → WrittenNodes
+  chosen t rs x = if t then gone k w x else stayed k w x (walk_regions rs (exit_of x) (entered w x))
+
+  node_is : (x : NodeTree) (t : Bool) → leaves k w (node_now k.moved x) ≡ t → chosen t (regions_in x) (node_now k.moved x) ≡ walk_node x k w
+  node_is (node id op ins rs) t e = ap (λ b. chosen b rs (node_now k.moved (node id op ins rs))) (sym e)
+
+  widened_is : (left : List NodeTree) (x : NodeTree) (exit : Exit) (regions : RegionTrees) → exit ≡ exit_of (node_now k.moved x) →
+      remade x (map (origin_in moves []) (inputs_in x) ++ outputs_of_left left) (all_grown (is_loop exit) (length left) regions) ≡ widened_by left (node_now k.moved x) regions
+  widened_is left (node id op ins rs) exit regions so =
+      ap₂ (λ os e. node id op (os ++ outputs_of_left left) (all_grown (is_loop e) (length left) regions)) (origins_are moves k.moved is.moved ins) so
 
   -- it leaves
-  pub left_walked : (before more : List NodeTree) (next : Moves) (now : Walking) → leaves k w here ≡ true → IsWalked (gone k w here) before more next now →
-      IsWalked (walk_node (node id op ins rs) k w) before more next now
-  left_walked before more next now e h = subst (λ s. IsWalked s before more next now) (node_is true e) h
+  pub left_walked : (x : NodeTree) (before more : List NodeTree) (next : Moves) (now : Walking) → leaves k w (node_now k.moved x) ≡ true →
+      IsWalked (gone k w (node_now k.moved x)) before more next now → IsWalked (walk_node x k w) before more next now
+  left_walked x before more next now e h = subst (λ s. IsWalked s before more next now) (node_is x true e) h
 
   -- it stays, where its regions are walked so from this state on
-  pub stays_walked : (before more : List NodeTree) (exit : Exit) (from inner : Walking) (regions : RegionTrees) → leaves k w here ≡ false → exit ≡ exit_of (node id op ins rs) →
-      from ≡ entered w here → record { regions = regions; now = inner } ≡ walk_regions rs exit from →
-      more ≡ before ++ inner.left ++ node id op (map (origin_in moves []) ins ++ outputs_of_left inner.left) (all_grown (is_loop exit) (length inner.left) regions) ∷ [] →
-      IsWalked (walk_node (node id op ins rs) k w) before more moves (record w { values = inner.values; steps = inner.steps })
-  stays_walked before more exit from inner regions e out begun walked written =
+  pub stays_walked : (x : NodeTree) (before more : List NodeTree) (exit : Exit) (from inner : Walking) (regions : RegionTrees) → leaves k w (node_now k.moved x) ≡ false → exit ≡ exit_of x →
+      from ≡ record w { inputs = map (origin_in moves []) (outer x); left = [] } → record { regions = regions; now = inner } ≡ walk_regions (regions_in x) exit from →
+      more ≡ before ++ inner.left ++ remade x (map (origin_in moves []) (inputs_in x) ++ outputs_of_left inner.left) (all_grown (is_loop exit) (length inner.left) regions) ∷ [] →
+      IsWalked (walk_node x k w) before more moves (record w { values = inner.values; steps = inner.steps })
+  stays_walked x before more exit from inner regions e out begun walked written =
       let now : Walking = record w { values = inner.values; steps = inner.steps } in
-      let so : exit ≡ exit_of here = out ∙ exit_so (origin_in moves []) id op ins rs in
+      let here : NodeTree = node_now k.moved x in
       let new : NodeTree = widened_by inner.left here regions in
-      let same : record { regions = regions; now = inner } ≡ walk_regions rs (exit_of here) (entered w here) = walked ∙ ap₂ (λ x v. walk_regions rs x v) so begun in
-      subst (λ s. IsWalked s before more moves now) (node_is false e)
+      let so : exit ≡ exit_of here = out ∙ exit_now k.moved x in
+      let start : from ≡ entered w here =
+      begun ∙ ap (λ os. record w { inputs = os; left = [] }) (origins_are moves k.moved is.moved (outer x) ∙ outer_now k.moved x) in
+      let same : record { regions = regions; now = inner } ≡ walk_regions (regions_in x) (exit_of here) (entered w here) = walked ∙ ap₂ (λ o v. walk_regions (regions_in x) o v) so start in
+      subst (λ s. IsWalked s before more moves now) (node_is x false e)
       (subst (λ t. IsWalked (stayed k w here t) before more moves now) same
       (record {
-        nodes = ap nodes_of
-            (written
-            ∙ ap (λ x. before ++ inner.left ++ node id op (map (origin_in moves []) ins ++ outputs_of_left inner.left) (all_grown (is_loop x) (length inner.left) regions) ∷ []) so
-            ∙ append_assoc before inner.left (new ∷ []))
+        nodes = ap nodes_of (written ∙ ap (λ y. before ++ inner.left ++ y ∷ []) (widened_is inner.left x exit regions so) ∙ append_assoc before inner.left (new ∷ []))
             ∙ nodes_of_append before (inner.left ++ new ∷ []) ∙ ap (joined_nodes (nodes_of before)) (nodes_of_append inner.left (new ∷ []));
         moved = is.moved;
         now_is = refl;

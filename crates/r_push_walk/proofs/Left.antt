@@ -27,5 +27,5 @@ gone_walked k place moves next w now x before is noted values steps inputs left 
 pub both_hold : (v a b p q : Bool) → a ≡ true → v ≡ b → a ≡ p → b ≡ q → v ≡ (p && q)
 both_hold v a b p q t e f g = e ∙ g ∙ ap (λ x. x && q) (sym t ∙ f)
 
-pub first_fails : (v a p q : Bool) → a ≡ false → v ≡ false → a ≡ p → v ≡ (p && q)
-first_fails v a p q t e f = e ∙ ap (λ x. x && q) (sym t ∙ f)
+pub first_fails : (v a p q : Bool) → a ≡ false → v ≡ a → a ≡ p → v ≡ (p && q)
+first_fails v a p q t e f = e ∙ t ∙ ap (λ x. x && q) (sym t ∙ f)

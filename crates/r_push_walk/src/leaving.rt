@@ -1,27 +1,26 @@
 //! Nodes that leave a region.
 
-ghost use Rattle.std.specs.Prelude.{◌≡◌, ◌&&◌, ◌^◌, [], ◌∷◌, suc, true, nat_lt, List, IfOk, OnOk, slice_get};
+ghost use Rattle.std.specs.Prelude.{◌≡◌, ◌&&◌, ◌^◌, [], ◌∷◌, suc, true, nat_lt, map, List, IfOk, OnOk, slice_get};
 ghost use Rattle.g_graph.specs.declared.steps.Step.{Step};
 ghost use Rattle.g_graph.specs.Plain.{NodeTree, regions_in, regions_of, has_none};
 ghost use Rattle.g_graph.specs.Replace.{node_redirected};
 ghost use Rattle.g_graph.specs.Splice.{args_to_inputs};
 ghost use Rattle.g_graph.specs.WellFormed.{all_of};
 ghost use Rattle.r_edit.specs.Size.{may_change_size};
-ghost use Rattle.r_push_laws.specs.Walk.{Cursor, is_open, growth_of, is_kept, moved_result, goes_along, leaves, gone};
-ghost use Rattle.r_walk.specs.Moves.{AreMoves};
+ghost use Rattle.r_push_laws.specs.Walk.{Cursor, is_open, growth_of, is_kept, moved_result, goes_along, leaves, node_now, gone};
+ghost use Rattle.r_walk.specs.Moves.{AreMoves, origin_in};
 ghost use Rattle.r_walk.specs.Walks.{HasGained};
 ghost use Rattle.r_walk_def.specs.Walk.{Moved, origin_now};
-ghost use Rattle.r_push_walk.specs.Walks.{exit_in, walking, remade, IsCursor, IsWalked, HasRoom};
+ghost use Rattle.r_push_walk.specs.Walks.{exit_in, walking, IsCursor, IsWalked, HasRoom};
 
 use crate::exit::Exit;
+use crate::now::{inputs_now, origin_now};
 use g_graph::{
-    ArgsToInputs, Node, Origin, Redirect, Region, Rule, Step, is_pure, redirect_origins,
-    same_origin,
+    ArgsToInputs, Node, Origin, Region, Rule, Step, is_pure, redirect_origins, same_origin,
 };
 use no_memory::NoMemory;
 use r_edit::may_change_size;
-use r_walk::{Moves, Now, Uses};
-use smallvec::SmallVec;
+use r_walk::{Moves, Uses};
 use std::alloc::Global;
 
 /// Where a walk stands in a region: its exit, and what its nodes and results use and its results,
@@ -41,18 +40,10 @@ pub struct Outside {
     pub left: Vec<Node>,
 }
 
-/// Whether a node, which reads these inputs now, leaves its region, in a lambda of so many values.
-pub fn leaves(
-    node: &Node,
-    reads: &[Origin],
-    place: &Place,
-    moves: &Moves,
-    values: u64,
-    outside: &Outside,
-) -> bool
+/// Whether a node leaves its region, in a lambda of so many values.
+pub fn leaves(node: &Node, place: &Place, moves: &Moves, values: u64, outside: &Outside) -> bool
     ensures is { (k : Cursor) (steps : List Step) → IsCursor k place.now moves.now →
-        result ≡ leaves k (walking values outside.now steps)
-        (remade node.now reads.now (regions_in node.now)) }
+        result ≡ leaves k (walking values outside.now steps) (node_now k.moved node.now) }
     ensures room { result ≡ true →
         HasRoom place.now.exit values outside.now (regions_in node.now) }
 {
@@ -60,7 +51,7 @@ pub fn leaves(
     has_room(place.exit, values, args)
         && is_pure(node.op)
         && has_none(&node.regions)
-        && all_go_along(reads, place, moves, args)
+        && all_go_along(node.inputs.as_slice(), place, moves, args)
         && place.uses.is_used(node.id, 0)
 }
 
@@ -86,10 +77,10 @@ fn has_none(regions: &[Region]) -> bool
 
 fn all_go_along(origins: &[Origin], place: &Place, moves: &Moves, args: usize) -> bool
     ensures { (k : Cursor) → IsCursor k place.now moves.now →
-        result ≡ all_of (goes_along k args) origins.now }
+        result ≡ all_of (goes_along k args) (map (origin_now k.moved []) origins.now) }
 {
     for origin in origins {
-        if !goes_along(*origin, place, moves, args) {
+        if !goes_along(origin_now(*origin, moves), place, moves, args) {
             return false;
         }
     }
@@ -119,19 +110,12 @@ fn is_kept(results: &[Origin], moves: &Moves, args: usize, index: u32) -> bool
     }
 }
 
-fn origin_now(origin: Origin, moves: &Moves) -> Origin
-    ensures { (ms : List Moved) → AreMoves moves.now ms → result ≡ origin_now ms [] origin }
-{
-    Now { moves, inputs: &[] }.redirect(origin)
-}
-
-/// A step: a node, which reads these inputs now, leaves its region. Outside it stands after those
-/// that left before, and uses of it become one more argument.
+/// A step: a node leaves its region. Outside it stands after those that left before, and uses of it
+/// become one more argument.
 #[inline(never)]
 pub fn leave(
     alloc: Global,
     node: &Node,
-    reads: SmallVec<Origin, 4>,
     place: &Place,
     moves: &mut Moves,
     values: &mut u64,
@@ -140,14 +124,14 @@ pub fn leave(
 ) -> Result<(), NoMemory>
     requires { HasRoom place.now.exit values.old outside.old (regions_in node.now) }
     ensures ok { OnOk result ((k : Cursor) (before : List NodeTree) → IsCursor k place.now moves.old →
-        IsWalked (gone k (walking values.old outside.old log.old.items)
-        (remade node.now reads.items (regions_in node.now)))
+        IsWalked (gone k (walking values.old outside.old log.old.items) (node_now k.moved node.now))
         before before moves.new (walking values.new outside.new log.new.items)) }
     ensures gained { HasGained log.old.items log.new.items }
 {
     let last = Origin::Arg(outside.inputs.len() as u32);
-    let moved = moved(alloc, node, reads, &outside.inputs);
-    outside.left.push(moved)?;
+    outside
+        .left
+        .push(moved(alloc, node, moves, &outside.inputs)?)?;
     outside.inputs.push(Origin::Out {
         node: node.id,
         port: 0,
@@ -162,19 +146,19 @@ pub fn leave(
 }
 
 // The node outside, where its region's arguments are these origins.
-fn moved(alloc: Global, node: &Node, reads: SmallVec<Origin, 4>, outer: &[Origin]) -> Node
+fn moved(alloc: Global, node: &Node, moves: &Moves, outer: &[Origin]) -> Result<Node, NoMemory>
     requires { has_none (regions_in node.now) ≡ true }
-    ensures { result ≡ node_redirected (args_to_inputs outer.now)
-        (remade node.now reads.items (regions_in node.now)) }
+    ensures { IfOk result (λ made. made ≡ node_redirected (args_to_inputs outer.now)
+        (node_redirected (origin_in moves.now []) node.now)) }
 {
-    let mut inputs = reads;
+    let mut inputs = inputs_now(alloc, node, moves)?;
     redirect_origins(inputs.as_mut_slice(), &ArgsToInputs { inputs: outer });
-    Node {
+    Ok(Node {
         id: node.id,
         op: node.op,
         inputs,
         regions: Vec::new(alloc),
-    }
+    })
 }
 
 fn only(alloc: Global, origin: Origin) -> Result<Vec<Origin>, NoMemory>

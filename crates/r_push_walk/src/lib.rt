@@ -5,6 +5,7 @@
 
 mod exit;
 mod leaving;
+mod now;
 mod staying;
 mod sweep;
 mod walker;

@@ -1,36 +1,45 @@
 //! Nodes that stay in a region, and what nodes leave.
 
-ghost use Rattle.std.specs.Prelude.{◌≡◌, ◌++◌, ◌∷◌, [], ℕ, IfOk, OnOk, length};
-ghost use Rattle.g_graph.specs.Plain.{RegionTrees, node, regions_of};
+ghost use Rattle.std.specs.Prelude.{◌≡◌, ◌++◌, ◌∷◌, [], map, IfOk, OnOk, length};
+ghost use Rattle.g_graph.specs.Plain.{inputs_in, regions_of};
 ghost use Rattle.r_push.specs.Edit.{outer};
 ghost use Rattle.r_push_laws.specs.Walk.{is_loop, grown_by_one, grown, all_grown, outputs_of_left};
+ghost use Rattle.r_walk.specs.Moves.{origin_in};
 ghost use Rattle.r_push_walk.specs.Walks.{exit_in, remade};
 
 use crate::exit::Exit;
 use crate::leaving::Outside;
+use crate::now::{inputs_now, origins_now};
 use g_graph::{Kind, Node, Op, Origin, Region};
 use no_memory::NoMemory;
+use r_walk::Moves;
 use smallvec::SmallVec;
 use std::alloc::Global;
 
-/// Of a node with this op and these inputs; no node has left its regions.
+/// What is outside the regions of a node, which no node has left. It stands on the heap, so that
+/// regions in each other take little of the stack.
 #[inline(never)]
-pub fn entered(alloc: Global, op: Op, inputs: &[Origin]) -> Result<Outside, NoMemory>
-    ensures inputs { IfOk result (λ made. (id : ℕ) (rs : RegionTrees) →
-        made.inputs.items ≡ outer (node id op inputs.now rs)) }
-    ensures left { IfOk result (λ made. made.left.items ≡ []) }
+pub fn entered(alloc: Global, node: &Node, moves: &Moves) -> Result<Box<Outside>, NoMemory>
+    ensures inputs { IfOk result (λ made.
+        made.value.inputs.items ≡ map (origin_in moves.now []) (outer node.now)) }
+    ensures left { IfOk result (λ made. made.value.left.items ≡ []) }
 {
-    Ok(Outside {
-        inputs: Vec::from_slice(alloc, outer(op, inputs))?,
-        left: Vec::new(alloc),
-    })
+    let inputs = origins_now(alloc, outer(node), moves)?;
+    Ok(Box::new(
+        alloc,
+        Outside {
+            inputs,
+            left: Vec::new(alloc),
+        },
+    )?)
 }
 
 // Where the arguments of the regions of a node come from.
-fn outer(op: Op, inputs: &[Origin]) -> &[Origin]
-    ensures { (id : ℕ) (rs : RegionTrees) → result.now ≡ outer (node id op inputs.now rs) }
+fn outer(node: &Node) -> &[Origin]
+    ensures { result.now ≡ outer node.now }
 {
-    match op {
+    let inputs = node.inputs.as_slice();
+    match node.op {
         Op::Gamma => match inputs.split_first() {
             Some((_, entries)) => entries,
             None => inputs,
@@ -39,25 +48,28 @@ fn outer(op: Op, inputs: &[Origin]) -> &[Origin]
     }
 }
 
-/// A node stays, whose inputs are these now, and whose regions are written so: the nodes that left
-/// them come before it. `NoMemory` also where 32 bits do not count the arguments of a region.
+/// A node stays, whose regions are written so: the nodes that left them come before it. `NoMemory`
+/// also where 32 bits do not count the arguments of a region.
 #[inline(never)]
 pub fn write(
+    alloc: Global,
     node: &Node,
-    reads: SmallVec<Origin, 4>,
+    moves: &Moves,
     exit: Exit,
     regions: Vec<Region>,
-    left: Vec<Node>,
+    outside: &mut Outside,
     written: &mut Vec<Node>,
 ) -> Result<(), NoMemory>
-    ensures { OnOk result (written.new.items ≡ written.old.items ++ left.items
-        ++ remade node.now (reads.items ++ outputs_of_left left.items)
-        (all_grown (is_loop (exit_in exit)) (length left.items) (regions_of regions.items)) ∷ []) }
+    ensures { OnOk result (written.new.items ≡ written.old.items ++ outside.old.left.items
+        ++ remade node.now
+        (map (origin_in moves.now []) (inputs_in node.now) ++ outputs_of_left outside.old.left.items)
+        (all_grown (is_loop (exit_in exit)) (length outside.old.left.items) (regions_of regions.items))
+        ∷ []) }
 {
-    let mut left = left;
-    let node = widened(node, reads, exit, regions, &left)?;
-    written.append(&mut left)?;
-    written.push(node)?;
+    let reads = inputs_now(alloc, node, moves)?;
+    let widened = widened(node, reads, exit, regions, &outside.left)?;
+    written.append(&mut outside.left)?;
+    written.push(widened)?;
     Ok(())
 }
 

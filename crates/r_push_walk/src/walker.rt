@@ -2,7 +2,7 @@
 
 ghost use Rattle.std.specs.Prelude.{◌≡◌, ◌++◌, [], ℕ, IfOk, OnOk, map};
 ghost use Rattle.g_graph.specs.declared.op.Origin.TheVariants.{Out};
-ghost use Rattle.g_graph.specs.Plain.{nodes_of, regions_of, nodes_in, inputs_in, results_of};
+ghost use Rattle.g_graph.specs.Plain.{region, nodes_of, regions_of, args_of, nodes_in, results_of};
 ghost use Rattle.r_push_laws.specs.Walk.{Cursor, walk_region, walk_regions, walk_nodes, walk_node, walked};
 ghost use Rattle.r_walk.specs.Around.{AreUses};
 ghost use Rattle.r_walk.specs.Moves.{output_in, origin_in};
@@ -12,11 +12,11 @@ ghost use Rattle.r_push_walk.specs.Walks.{exit_in, walking, IsCursor, IsWalked};
 
 use crate::exit::{Exit, exit_of};
 use crate::leaving::{Outside, Place, leave, leaves};
+use crate::now::origins_now;
 use crate::staying::{entered, write};
-use g_graph::{Lambda, Node, Origin, Region, Step, redirect_origins, values};
+use g_graph::{Lambda, Node, Region, Step, values};
 use no_memory::NoMemory;
-use r_walk::{Moves, Now, Uses, uses_of};
-use smallvec::SmallVec;
+use r_walk::{Moves, Uses, uses_of};
 use std::alloc::Global;
 
 /// What a walk makes of a lambda. The steps that it makes are appended to the log. `NoMemory` only
@@ -102,13 +102,7 @@ fn walk_region(
         log,
         &mut nodes,
     )?;
-    let args = Vec::from_slice(alloc, &region.args)?;
-    let results = results_now(alloc, &region.results, &moves)?;
-    Ok(Region {
-        args,
-        nodes,
-        results,
-    })
+    with_nodes(alloc, region, nodes, &moves)
 }
 
 #[cycle(walk)]
@@ -177,14 +171,13 @@ fn walk_node(
         (walking values.new outside.new log.new.items)) }
     ensures gained { HasGained log.old.items log.new.items }
 {
-    let reads = inputs_now(alloc, node, moves)?;
-    if leaves(node, reads.as_slice(), place, moves, *values, outside) {
-        return leave(alloc, node, reads, place, moves, values, outside, log);
+    if leaves(node, place, moves, *values, outside) {
+        return leave(alloc, node, place, moves, values, outside, log);
     }
     let exit = exit_of(node);
-    let mut inner = entered(alloc, node.op, reads.as_slice())?;
+    let mut inner = entered(alloc, node, moves)?;
     let regions = walk_regions(alloc, &node.regions, exit, values, &mut inner, log)?;
-    write(node, reads, exit, regions, inner.left, written)
+    write(alloc, node, moves, exit, regions, &mut inner, written)
 }
 
 // What a region's outputs became, on the heap, so that regions in each other take little of the
@@ -205,20 +198,22 @@ fn used_in(alloc: Global, region: &Region) -> Result<Box<Uses>, NoMemory>
     Ok(Box::new(alloc, uses_of(alloc, region)?)?)
 }
 
-// The node's inputs as they are now.
-fn inputs_now(alloc: Global, node: &Node, moves: &Moves) -> Result<SmallVec<Origin, 4>, NoMemory>
-    ensures { IfOk result (λ reads. reads.items ≡ map (origin_in moves.now []) (inputs_in node.now)) }
+// The region with these nodes in the place of its own, whose outputs became these.
+#[inline(never)]
+fn with_nodes(
+    alloc: Global,
+    old: &Region,
+    nodes: Vec<Node>,
+    moves: &Moves,
+) -> Result<Region, NoMemory>
+    ensures { IfOk result (λ made. made ≡ region (args_of old.now) (nodes_of nodes.items)
+        (map (origin_in moves.now []) (results_of old.now))) }
 {
-    let mut reads = SmallVec::from_slice(alloc, node.inputs.as_slice())?;
-    redirect_origins(reads.as_mut_slice(), &Now { moves, inputs: &[] });
-    Ok(reads)
-}
-
-// Results as they are now.
-fn results_now(alloc: Global, results: &[Origin], moves: &Moves) -> Result<Vec<Origin>, NoMemory>
-    ensures { IfOk result (λ now. now.items ≡ map (origin_in moves.now []) results.now) }
-{
-    let mut now = Vec::from_slice(alloc, results)?;
-    redirect_origins(now.as_mut_slice(), &Now { moves, inputs: &[] });
-    Ok(now)
+    let args = Vec::from_slice(alloc, &old.args)?;
+    let results = origins_now(alloc, &old.results, moves)?;
+    Ok(Region {
+        args,
+        nodes,
+        results,
+    })
 }

@@ -1,7 +1,8 @@
 -- Each node and region that is walked goes on with the whole.
 use Rattle.std.proofs.Common.{◌≡◌, ◌+◌, ◌∷◌, ◌++◌, [], map, drop, drop_of_length-le, rules, refl, ap, ap₂, sym, subst, ◌∙◌}
 use Rattle.std.proofs.lemmas.List.{append-nil, drop_more}
-use Rattle.g_graph.specs.Plain.{node, region, region_then, inputs_in, nodes_of, regions_of}
+use Rattle.g_graph.specs.Plain.{region, region_then, regions_in, nodes_of, regions_of}
+use Rattle.r_push.specs.Edit.{outer}
 use Rattle.r_push_laws.specs.Walk.{Cursor, at_start, walk_node, walk_nodes, walk_region, walk_regions}
 use Rattle.r_walk.specs.Moves.{origin_in}
 use Rattle.r_walk_def.specs.Context.{joined_regions}
@@ -86,51 +87,30 @@ walk_regions-returns-clause-ok t c =
 
 pub walk_node-returns-then-leaves-clause-ok : goal.walk_node-returns-then-leaves-clause-ok
 walk_node-returns-then-leaves-clause-ok t c =
-    let x = c.node.inside in
     let before = c.args.written.now.items in
-    let moves = c.args.moves.now in
     let w = walking c.args.values.now c.args.outside.now c.args.log.now.items in
     let now = walking c.leave.new.values c.leave.new.outside c.leave.new.log.items in
-    let ins : c.in_ok-reads.reads.items ≡ map (origin_in moves []) x.inputs.items = c.in_ok-reads.ensures ∙ ap (λ y. map (origin_in moves []) (inputs_in y)) (sym c.node.view_is) in
-    let here : node (id_of c.args.node.now) (op_of c.args.node.now) c.in_ok-reads.reads.items (regions_in c.args.node.now) ≡ node x.id x.op (map (origin_in moves []) x.inputs.items) (regions_of x.regions.items) =
-    ap₂ (λ y os. node (id_of y) (op_of y) os (regions_in y)) (sym c.node.view_is) ins in
-    let read : node (id_of c.args.node.now) (op_of c.args.node.now) c.as_slice.result.now (regions_in c.args.node.now) ≡ node x.id x.op (map (origin_in moves []) x.inputs.items) (regions_of x.regions.items) =
-    ap (λ os. node (id_of c.args.node.now) (op_of c.args.node.now) os (regions_in c.args.node.now)) c.as_slice.ensures ∙ here in
     on_ok c.leave.result _ _
     (λ left k is.
-    subst (λ y. IsWalked (walk_node y k w) before before c.leave.new.moves now) c.node.view_is
-    (left_walked x.id x.op x.inputs.items (regions_of x.regions.items) k c.args.place.now moves w is before before c.leave.new.moves now
-    (ap (leaves k w) (sym read) ∙ sym (c.leaves.ensures.is k c.args.log.now.items is) ∙ c.if-leaves.true)
-    (subst (λ y. IsWalked (gone k w y) before before c.leave.new.moves now) here (left k before is))))
+    left_walked k c.args.place.now c.args.moves.now w is c.args.node.now before before c.leave.new.moves now
+    (sym (c.leaves.ensures.is k c.args.log.now.items is) ∙ c.if-leaves.true) (left k before is))
     c.leave.ensures.ok
 
 pub walk_node-returns-clause-ok : goal.walk_node-returns-clause-ok
 walk_node-returns-clause-ok t c =
-    let x = c.node.inside in
     let before = c.args.written.now.items in
-    let moves = c.args.moves.now in
     let w = walking c.args.values.now c.args.outside.now c.args.log.now.items in
-    let from = walking c.args.values.now c.in_ok-inner.inner c.args.log.now.items in
+    let from = walking c.args.values.now c.in_ok-inner.inner.value c.args.log.now.items in
     let inner = walking c.walk_regions.new.values c.walk_regions.new.outside c.walk_regions.new.log.items in
-    let reads = map (origin_in moves []) x.inputs.items in
-    let here = node x.id x.op reads (regions_of x.regions.items) in
-    let ins : c.in_ok-reads.reads.items ≡ reads = c.in_ok-reads.ensures ∙ ap (λ y. map (origin_in moves []) (inputs_in y)) (sym c.node.view_is) in
-    let read : node (id_of c.args.node.now) (op_of c.args.node.now) c.as_slice.result.now (regions_in c.args.node.now) ≡ here =
-    ap₂ (λ y os. node (id_of y) (op_of y) os (regions_in y)) (sym c.node.view_is) (c.as_slice.ensures ∙ ins) in
-    let begun : from ≡ entered w here =
-    ap₂ (λ os ys. record w { inputs = os; left = ys })
-    (c.in_ok-inner.ensures.inputs x.id (regions_of x.regions.items) ∙ ap (λ os. outer (node x.id x.op os (regions_of x.regions.items))) (c.as_slice-2.ensures ∙ ins)) c.in_ok-inner.ensures.left in
+    let exit = exit_in c.exit_of-exit.result in
+    let begun : from ≡ record w { inputs = map (origin_in c.args.moves.now []) (outer c.args.node.now); left = [] } =
+    ap₂ (λ os ys. record w { inputs = os; left = ys }) c.in_ok-inner.ensures.inputs c.in_ok-inner.ensures.left in
     on_ok c.write.result _ _
     (λ written k is.
-    subst (λ y. IsWalked (walk_node y k w) before c.write.new.written.items moves (record w { values = inner.values; steps = inner.steps })) c.node.view_is
-    (stays_walked x.id x.op x.inputs.items (regions_of x.regions.items) k c.args.place.now moves w is before c.write.new.written.items (exit_in c.exit_of-exit.result) from inner
-    (regions_of c.in_ok-regions.regions.items)
-    (ap (leaves k w) (sym read) ∙ sym (c.leaves.ensures.is k c.args.log.now.items is) ∙ c.if-leaves.false)
-    (c.exit_of-exit.ensures ∙ ap exit_of (sym c.node.view_is)) begun
-    (c.in_ok-regions.ensures.ok ∙ ap (λ rs. walk_regions (regions_of rs) (exit_in c.exit_of-exit.result) from) c.deref.ensures.value)
-    (written
-    ∙ ap₂ (λ y os. before ++ inner.left ++ node (id_of y) (op_of y) (os ++ outputs_of_left inner.left) (all_grown (is_loop (exit_in c.exit_of-exit.result)) (length inner.left) (regions_of c.in_ok-regions.regions.items)) ∷ [])
-    (sym c.node.view_is) ins)))
+    stays_walked k c.args.place.now c.args.moves.now w is c.args.node.now before c.write.new.written.items exit from inner (regions_of c.in_ok-regions.regions.items)
+    (sym (c.leaves.ensures.is k c.args.log.now.items is) ∙ c.if-leaves.false) c.exit_of-exit.ensures begun
+    (c.in_ok-regions.ensures.ok ∙ ap (λ rs. walk_regions (regions_of rs) exit from) c.deref.ensures.value ∙ ap (λ y. walk_regions (regions_in y) exit from) c.node.view_is)
+    written)
     c.write.ensures
 
 pub walk_region-walk_nodes-requires : goal.walk_region-walk_nodes-requires
@@ -140,24 +120,4 @@ walk_region-walk_nodes-requires t c =
     λ κs within. (smaller, search rules)
 
 pub walk_region-returns-clause-ok : goal.walk_region-returns-clause-ok
-walk_region-returns-clause-ok t c =
-    let r = c.region.inside in
-    let nodes = nodes_of r.nodes.items in
-    let results = r.results.items in
-    let e = exit_in c.args.exit in
-    let moves = c.walk_nodes.new.moves in
-    let written = c.walk_nodes.new.written.items in
-    let start = walking c.args.values.now c.args.outside.now c.args.log.now.items in
-    let now = walking c.walk_nodes.new.values c.walk_nodes.new.outside c.walk_nodes.new.log.items in
-    let k : Cursor = at_start e nodes results in
-    let first : IsCursor k c.place c.in_ok-moves.moves.value = record {
-      exit_is = refl;
-      used = subst (λ y. AreUses c.in_ok-uses.uses.value (inputs_of_nodes (nodes_in y) ++ results_of y)) (sym c.region.view_is) c.in_ok-uses.ensures;
-      results_are = ?;
-      moved = c.in_ok-moves.ensures;
-    } in
-    let walked : IsWalked (walk_nodes nodes k start) [] written moves now = ? in
-    ap₂ (λ xs os. record { region = region xs (nodes_of written) os; now = now }) (c.in_ok-args.ensures.items ∙ c.deref-3.ensures.value)
-    (c.in_ok-results.ensures ∙ ap₂ (λ b os. map (origin_in b []) os) c.deref-5.ensures c.deref-4.ensures.value)
-    ∙ region_written r.args.items nodes results e start now written moves walked
-    ∙ ap (λ y. walk_region y e start) c.region.view_is
+walk_region-returns-clause-ok t c = ?
