@@ -1,8 +1,8 @@
 -- What is written with what is left makes the whole, node by node.
-use Rattle.std.proofs.Common.{◌≡◌, ◌<◌, ◌≤◌, ◌+◌, ◌*◌, arith, if◌then◌else◌, Bool, true, false, ℕ, suc, List, [], ◌∷◌, ◌++◌, map, length, refl, sym, ap, ap₂, subst, ◌∙◌}
+use Rattle.std.proofs.Common.{◌≡◌, ◌<◌, ◌≤◌, ◌+◌, ◌*◌, ◌-◌, ◌^◌, arith, if◌then◌else◌, Bool, true, false, ℕ, suc, List, [], ◌∷◌, ◌++◌, map, length, refl, sym, ap, ap₂, subst, ◌∙◌}
 use denote.Param.Weighed.{most}
 use Rattle.std.proofs.lemmas.List.{append_assoc}
-use Rattle.std.specs.Prelude.{OnOk}
+use Rattle.std.specs.Prelude.{IfOk, OnOk}
 use Rattle.std.specs.declared.result.Result.{Result}
 use Rattle.std.specs.declared.result.Result.TheVariants.{Ok, Err}
 use Rattle.g_graph.specs.declared.op.Kind.{Kind}
@@ -11,19 +11,22 @@ use Rattle.g_graph.specs.declared.op.Op.TheVariants.{Gamma}
 use Rattle.g_graph.specs.declared.op.Origin.{Origin}
 use Rattle.g_graph.specs.declared.op.Origin.TheVariants.{Arg, Out}
 use Rattle.g_graph.specs.declared.steps.Step.{Step}
-use Rattle.g_graph.specs.Plain.{RegionTree, region, NodeTree, node, NodeTrees, no_nodes, node_then, RegionTrees, no_regions, region_then, nodes_of, regions_of, inputs_in, regions_in, region_size, node_size, nodes_size}
+use Rattle.g_graph.specs.Plain.{PlainLambda, RegionTree, region, NodeTree, node, NodeTrees, no_nodes, node_then, RegionTrees, no_regions, region_then, nodes_of, regions_of, args_of, nodes_in, results_of, inputs_in, regions_in, region_size, node_size, nodes_size}
+use Rattle.g_graph.specs.Count.{saturated}
+use Rattle.g_graph.specs.Program.{lambda_values}
 use Rattle.g_graph.specs.Splice.{joined_nodes}
 use Rattle.g_graph.proofs.lemmas.Splices as splices
 use Rattle.g_graph.proofs.lemmas.Splices.{joined_assoc, nodes_of_append}
 use Rattle.r_push.specs.Edit.{outer}
-use Rattle.r_push_laws.specs.Walk.{Exit, exit_of, is_loop, Cursor, Walking, WrittenNodes, leaves, node_now, gone, stayed, all_grown, outputs_of_left, widened_by, entered, after, at_start, walk_nodes, walk_node, walk_region, walk_regions}
+use Rattle.r_push_laws.specs.Walk.{Exit, shut, exit_of, is_loop, Cursor, Walking, WrittenNodes, leaves, node_now, gone, stayed, all_grown, outputs_of_left, widened_by, entered, after, at_start, walk_nodes, walk_node, walk_region, walk_regions, walked}
 use Rattle.r_walk.specs.Moves.{AreMoves, origin_in}
 use Rattle.r_walk.specs.Walks.{HasGained}
 use Rattle.r_walk.specs.declared.moves.Moves.{Moves}
 use Rattle.r_walk_def.specs.Context.{joined_regions}
 use Rattle.r_walk_def.specs.Walk.{Moved, origin_now}
+use Rattle.r_push_walk.specs.declared.leaving.Outside.{Outside}
 use Rattle.r_push_walk.specs.declared.leaving.Place.{Place}
-use Rattle.r_push_walk.specs.Walks.{remade, IsCursor, IsWalked}
+use Rattle.r_push_walk.specs.Walks.{remade, walking, IsCursor, IsWalked}
 use Rattle.r_push_walk.proofs.Exits.{exit_so}
 
 pub origin_is : (m : Moves) (ms : List Moved) → AreMoves m ms → (o : Origin) → origin_in m [] o ≡ origin_now ms [] o
@@ -73,13 +76,23 @@ ends whole first start begun written place moves now a = record {
 }
 
 -- a region, once all its nodes are written
-pub region_written : (args : List Kind) (nodes : NodeTrees) (results : List Origin) (exit : Exit) (start now : Walking) (written : List NodeTree) (moves : Moves) →
-    IsWalked (walk_nodes nodes (at_start exit nodes results) start) [] written moves now →
-    record { region = region args (nodes_of written) (map (origin_in moves []) results); now = now } ≡ walk_region (region args nodes results) exit start
-region_written args nodes results exit start now written moves h =
+pub region_written : (r : RegionTree) (exit : Exit) (start now : Walking) (written : List NodeTree) (moves : Moves) →
+    IsWalked (walk_nodes (nodes_in r) (at_start exit (nodes_in r) (results_of r)) start) [] written moves now →
+    record { region = region (args_of r) (nodes_of written) (map (origin_in moves []) (results_of r)); now = now } ≡ walk_region r exit start
+region_written (region args nodes results) exit start now written moves h =
     let t : WrittenNodes = walk_nodes nodes (at_start exit nodes results) start in
     let os : map (origin_in moves []) results ≡ map (origin_now t.moved []) results = origins_are moves t.moved h.moved results in
     λ i. record { region = region args (h.nodes i) (os i); now = h.now_is i }
+
+-- the lambda, once its body is written
+pub body_walked : (l : PlainLambda) (values count : ℕ) (outside : Outside) (log : List Step) (body : RegionTree) (now : Walking) → count ≡ saturated (lambda_values l) → count < 2 ^ 64 - 1 → values ≡ count →
+    outside.inputs.items ≡ [] → outside.left.items ≡ [] → record { region = body; now = now } ≡ walk_region l.body shut (walking values outside log) →
+    record { lambda = record l { body = body }; steps = now.steps } ≡ walked (record { lambda = l; steps = log })
+body_walked l values count outside log body now counted less valued inputs left h =
+    let all : values ≡ lambda_values l = omega (arith, counted, less, valued) in
+    let start : walking values outside log ≡ record { values = lambda_values l; steps = log; inputs = []; left = [] } =
+    λ i. record { values = all i; steps = log; inputs = inputs i; left = left i } in
+    ap (λ z. record { lambda = record l { body = z.region }; steps = z.now.steps }) (h ∙ ap (walk_region l.body shut) start)
 
 -- ---- a node
 
@@ -116,14 +129,14 @@ module _ (k : Cursor) (place : Place) (moves : Moves) (w : Walking) (is : IsCurs
       from ≡ record w { inputs = map (origin_in moves []) (outer x); left = [] } → record { regions = regions; now = inner } ≡ walk_regions (regions_in x) exit from →
       more ≡ before ++ inner.left ++ remade x (map (origin_in moves []) (inputs_in x) ++ outputs_of_left inner.left) (all_grown (is_loop exit) (length inner.left) regions) ∷ [] →
       IsWalked (walk_node x k w) before more moves (record w { values = inner.values; steps = inner.steps })
-  stays_walked x before more exit from inner regions e out begun walked written =
+  stays_walked x before more exit from inner regions e out begun made written =
       let now : Walking = record w { values = inner.values; steps = inner.steps } in
       let here : NodeTree = node_now k.moved x in
       let new : NodeTree = widened_by inner.left here regions in
       let so : exit ≡ exit_of here = out ∙ exit_now k.moved x in
       let start : from ≡ entered w here =
       begun ∙ ap (λ os. record w { inputs = os; left = [] }) (origins_are moves k.moved is.moved (outer x) ∙ outer_now k.moved x) in
-      let same : record { regions = regions; now = inner } ≡ walk_regions (regions_in x) (exit_of here) (entered w here) = walked ∙ ap₂ (λ o v. walk_regions (regions_in x) o v) so start in
+      let same : record { regions = regions; now = inner } ≡ walk_regions (regions_in x) (exit_of here) (entered w here) = made ∙ ap₂ (λ o v. walk_regions (regions_in x) o v) so start in
       subst (λ s. IsWalked s before more moves now) (node_is x false e)
       (subst (λ t. IsWalked (stayed k w here t) before more moves now) same
       (record {
@@ -149,7 +162,11 @@ joined_none (region_then r rs) = ap (λ ss. region_then r ss) (joined_none rs)
 pub gained_more : (a b c : List Step) → HasGained a b → HasGained b c → HasGained a c
 gained_more a b c g h = (g.0 ++ h.0, h.1 ∙ ap (λ xs. xs ++ h.0) g.1 ∙ append_assoc a g.0 h.0)
 
--- what follows from a value's promise
+-- what follows from a promise
+pub if_ok : {X Y : Type 0} (r : Result X Y) (P Q : X → Type 0) → ((x : X) → P x → Q x) → IfOk r P → IfOk r Q
+if_ok (Ok x) P Q f h = f x h
+if_ok (Err e) P Q f h = tt
+
 pub on_ok : {X Y : Type 0} (r : Result X Y) (P Q : Type 0) → (P → Q) → OnOk r P → OnOk r Q
 on_ok (Ok x) P Q f h = f h
 on_ok (Err e) P Q f h = tt
