@@ -1,13 +1,14 @@
 -- Each node and region that is walked goes on with the whole.
 use Rattle.std.proofs.Common.{◌≡◌, ◌+◌, ◌∷◌, ◌++◌, [], map, drop, drop_of_length-le, rules, refl, ap, ap₂, sym, subst, ◌∙◌}
 use Rattle.std.proofs.lemmas.List.{append-nil, drop_more}
-use Rattle.g_graph.specs.Plain.{region, region_then, regions_in, nodes_of, regions_of}
+use Rattle.g_graph.specs.Plain.{region, region_then, args_of, nodes_in, results_of, regions_in, nodes_of, regions_of}
 use Rattle.r_push.specs.Edit.{outer}
 use Rattle.r_push_laws.specs.Walk.{Cursor, at_start, walk_node, walk_nodes, walk_region, walk_regions}
-use Rattle.r_walk.specs.Moves.{origin_in}
+use Rattle.r_walk.specs.Around.{AreUses}
+use Rattle.r_walk.specs.Moves.{AreMoves, origin_in}
 use Rattle.r_walk_def.specs.Context.{joined_regions}
-use Rattle.r_push_walk.specs.Walks.{exit_in, walking, IsCursor, IsWalked}
-use Rattle.r_push_walk.proofs.Along.{IsAlong, begins, goes_on, ends, region_written, joined_more, joined_none, gained_more, nodes_smaller, on_ok, left_walked, stays_walked}
+use Rattle.r_push_walk.specs.Walks.{exit_in, walking, IsWalked}
+use Rattle.r_push_walk.proofs.Along.{IsAlong, begins, goes_on, ends, region_written, joined_more, joined_none, gained_more, nodes_smaller, if_ok, on_ok, left_walked, stays_walked}
 use Rattle.r_push_walk.proofs.walker.+walk.Goals as goal
 
 pub walk_nodes-loop-node-init : goal.walk_nodes-loop-node-init
@@ -116,8 +117,29 @@ walk_node-returns-clause-ok t c =
 pub walk_region-walk_nodes-requires : goal.walk_region-walk_nodes-requires
 walk_region-walk_nodes-requires t c =
     let r = c.region.inside in
-    let smaller = nodes_smaller r.args.items r.nodes.items c.deref.result.now r.results.items c.deref.ensures.value t c.args.region.now c.region.view_is c.decreases in
+    let smaller = nodes_smaller r.args.items r.nodes.items c.deref-3.result.now r.results.items c.deref-3.ensures.value t c.args.region.now c.region.view_is c.decreases in
     λ κs within. (smaller, search rules)
 
 pub walk_region-returns-clause-ok : goal.walk_region-returns-clause-ok
-walk_region-returns-clause-ok t c = ?
+walk_region-returns-clause-ok t c =
+    let r = c.args.region.now in
+    let e = exit_in c.args.exit in
+    let moves = c.walk_nodes.new.moves in
+    let written = c.walk_nodes.new.written.items in
+    let start = walking c.args.values.now c.args.outside.now c.args.log.now.items in
+    let now = walking c.walk_nodes.new.values c.walk_nodes.new.outside c.walk_nodes.new.log.items in
+    let k : Cursor = at_start e (nodes_in r) (results_of r) in
+    let walked : IsWalked (walk_nodes (nodes_in r) k start) [] written moves now =
+    subst (λ ns. IsWalked (walk_nodes (nodes_in r) k start) ns written moves now) c.in_ok-nodes.ensures.items
+    (subst (λ ns. IsWalked (walk_nodes ns k start) c.in_ok-nodes.nodes.items written moves now) (ap nodes_of c.deref-3.ensures.value ∙ ap nodes_in c.region.view_is)
+    (c.in_ok-walk_nodes.ensures.ok k (record {
+      exit_is = refl;
+      used = subst (λ u. AreUses u k.uses) (sym c.deref.ensures) c.in_ok-uses.ensures;
+      results_are = sym (c.deref-2.ensures.value ∙ ap results_of c.region.view_is);
+      moved = subst (λ m. AreMoves m []) (sym c.deref_mut.ensures.value) c.in_ok-moves.ensures;
+    }))) in
+    if_ok c.with_nodes.result _ _
+    (λ made h.
+    ap (λ m. record { region = m; now = now }) (h ∙ ap (λ b. region (args_of r) (nodes_of written) (map (origin_in b []) (results_of r))) c.deref-4.ensures)
+    ∙ region_written r e start now written moves walked)
+    c.with_nodes.ensures
