@@ -1,13 +1,13 @@
 mod Carried
 mod Means
-mod User
+pub mod User
 mod Counted
-mod Resized
+pub mod Resized
 mod FilledFit
 mod PulledFit
 mod Replaced
 mod Answered
-mod Unread
+pub mod Unread
 mod Kept
 mod PulledOps
 mod Step
