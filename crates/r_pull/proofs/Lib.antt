@@ -16,3 +16,4 @@ mod Entries
 mod Saturated
 mod Found
 mod Filled
+mod Moves
