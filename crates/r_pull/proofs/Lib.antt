@@ -14,6 +14,6 @@ mod Step
 mod Examples
 mod Entries
 mod Saturated
-mod Found
+pub mod Found
 mod Filled
 mod Moves

@@ -1,0 +1,4 @@
+mod After
+mod Steps
+mod Uses
+mod Written
