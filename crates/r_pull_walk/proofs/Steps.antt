@@ -13,7 +13,7 @@ use Rattle.r_pull_laws.specs.Walk.{Behind, pull_behind, put, put_where}
 use Rattle.r_pull_walk.specs.declared.users.User.{User}
 use Rattle.r_pull_walk.specs.declared.users.User.TheVariants.{Entries}
 use Rattle.r_pull_walk.specs.declared.users.Users.{Users}
-use Rattle.r_pull_walk.specs.Behind.{nodes_behind, behind, CanLeave, IsWritten}
+use Rattle.r_pull_walk.specs.Behind.{nodes_behind, behind, can_leave, IsWritten}
 use Rattle.r_pull_walk.specs.Users.{both_use, node_user, user_among, user_in, AreUsers, carried_with, user_after}
 use Rattle.r_pull_walk.proofs.After.{node_behind, users_written, users_moved, own_inputs}
 use Rattle.r_pull_walk.proofs.Written.{Used, used_at, stays_behind, moves_behind, changed_entry}
@@ -30,7 +30,7 @@ module _ (x : NodeTree) (results : List Origin) (ws : List NodeTree) (w : Walkin
         }
 
     -- where no Gamma takes it
-    pub untaken : ((j : ℕ) → user_in users (id_of x) ≡ Entries j → CanLeave x → ⊥) → IsWritten results (put_where x results (behind ws w)) ws' users' w
+    pub untaken : ((j : ℕ) → user_in users (id_of x) ≡ Entries j → can_leave x ≡ true → ⊥) → IsWritten results (put_where x results (behind ws w)) ws' users' w
     untaken h = stayed (stays_behind x results ws w (λ j e leaves. h j (are (id_of x) ∙ e) leaves))
 
   -- ---- the Gamma of a place
@@ -43,7 +43,7 @@ module _ (x : NodeTree) (results : List Origin) (ws : List NodeTree) (w : Walkin
   set_there [] g later y = refl
   set_there (z ∷ zs) g later y = ap (λ ys. z ∷ ys) (set_there zs g later y)
 
-  module _ (place : ℕ) (user : user_in users (id_of x) ≡ Entries place) (leaves : CanLeave x) where
+  module _ (place : ℕ) (user : user_in users (id_of x) ≡ Entries place) (leaves : can_leave x ≡ true) where
     used : Used (id_of x) results ws place
     used = used_at (id_of x) results ws place (sym (are (id_of x)) ∙ user)
 

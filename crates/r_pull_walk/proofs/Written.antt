@@ -15,7 +15,7 @@ use Rattle.r_pull.proofs.Found.{pull_seen_of}
 use Rattle.r_pull_laws.specs.Walk.{Behind, pull_behind}
 use Rattle.r_pull_walk.specs.declared.users.User.{User}
 use Rattle.r_pull_walk.specs.declared.users.User.TheVariants.{Nobody, Entries, Others}
-use Rattle.r_pull_walk.specs.Behind.{nodes_behind, behind, CanLeave}
+use Rattle.r_pull_walk.specs.Behind.{nodes_behind, behind, can_leave}
 use Rattle.r_pull_walk.specs.Users.{both_use, used_by, node_user, users_from, user_among}
 use Rattle.r_pull_walk.proofs.Uses.{use_none, use_others, use_assoc, some_uses}
 use Rattle.r_walk_def.specs.Walk.{Walking}
@@ -276,10 +276,10 @@ module _ (x : NodeTree) (results : List Origin) (ws : List NodeTree) (w : Walkin
   seen_is = ap (option_and_then (where_fits w.values w.next (id_of x))) (pull_seen_of (id_of x) (region [] (nodes_behind ws no_nodes) results) x)
 
   -- it stays where not one Gamma takes it
-  pub stays_behind : ((j : ℕ) → user_among results ws (id_of x) ≡ Entries j → CanLeave x → ⊥) → pull_behind x results (behind ws w) ≡ None
+  pub stays_behind : ((j : ℕ) → user_among results ws (id_of x) ≡ Entries j → can_leave x ≡ true → ⊥) → pull_behind x results (behind ws w) ≡ None
   stays_behind h = seen_is ∙ ap seen (by x h)
     where
-      by : (y : NodeTree) → ((j : ℕ) → user_among results ws (id_of y) ≡ Entries j → CanLeave y → ⊥) → user_of (id_of y) (region [] (nodes_behind ws no_nodes) results) y ≡ None
+      by : (y : NodeTree) → ((j : ℕ) → user_among results ws (id_of y) ≡ Entries j → can_leave y ≡ true → ⊥) → user_of (id_of y) (region [] (nodes_behind ws no_nodes) results) y ≡ None
       by (node n op inputs rs) k = cases (user_among results ws n) refl
         where
           leaving : (j : ℕ) → user_among results ws n ≡ Entries j → (t : Bool) → (is_pure op && has_none rs) ≡ t → in_region n results ws op rs ≡ None
@@ -292,8 +292,8 @@ module _ (x : NodeTree) (results : List Origin) (ws : List NodeTree) (w : Walkin
           cases (Entries j) e = leaving j e (is_pure op && has_none rs) refl
 
   -- it moves into the Gamma that takes it, where it may
-  pub moves_behind : (j : ℕ) (u : Used (id_of x) results ws j) → CanLeave x → pull_behind x results (behind ws w) ≡ where_fits w.values w.next (id_of x) (pull_into x u.entry.gamma)
+  pub moves_behind : (j : ℕ) (u : Used (id_of x) results ws j) → can_leave x ≡ true → pull_behind x results (behind ws w) ≡ where_fits w.values w.next (id_of x) (pull_into x u.entry.gamma)
   moves_behind j u leaves = seen_is ∙ ap seen (by x u leaves)
     where
-      by : (y : NodeTree) (v : Used (id_of y) results ws j) → CanLeave y → user_of (id_of y) (region [] (nodes_behind ws no_nodes) results) y ≡ Some v.entry.gamma
+      by : (y : NodeTree) (v : Used (id_of y) results ws j) → can_leave y ≡ true → user_of (id_of y) (region [] (nodes_behind ws no_nodes) results) y ≡ Some v.entry.gamma
       by (node n op inputs rs) v q = entries_take n results ws op rs j q v

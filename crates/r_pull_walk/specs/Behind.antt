@@ -1,5 +1,5 @@
 -- The nodes that are written, the last of the region first.
-use Rattle.std.specs.Prelude.{◌≡◌, ℕ, List, [], ◌∷◌, ◌&&◌, true}
+use Rattle.std.specs.Prelude.{◌≡◌, ℕ, List, [], ◌∷◌, ◌&&◌, Bool}
 use Rattle.g_graph.specs.declared.op.Origin.{Origin}
 use Rattle.g_graph.specs.Plain.{NodeTree, node, NodeTrees, no_nodes, node_then, RegionTree, RegionTrees, region_then, has_none}
 use Rattle.g_graph.specs.Signatures.{is_pure}
@@ -21,8 +21,8 @@ abbrev pub behind : List NodeTree → Walking → Behind
 behind ws w = record { nodes = nodes_behind ws no_nodes; now = w }
 
 -- a node that may leave its region
-abbrev pub CanLeave : NodeTree → Type 0
-CanLeave (node id op inputs rs) = (is_pure op && has_none rs) ≡ true
+abbrev pub can_leave : NodeTree → Bool
+can_leave (node id op inputs rs) = is_pure op && has_none rs
 
 -- These nodes are written, in a region with these results, and the table has their users.
 pub record IsWritten (results : List Origin) (s : Behind) (ws : List NodeTree) (users : Users) (w : Walking) : Type 0 where

@@ -1,7 +1,9 @@
 -- What uses outputs of a node: of the region's nodes those that are written, and the results.
-use Rattle.std.specs.Prelude.{◌≡◌, ℕ, suc, ◌==◌, if◌then◌else◌, List, [], ◌∷◌, nat_eq}
+use Rattle.std.specs.Prelude.{◌≡◌, ℕ, suc, ◌==◌, if◌then◌else◌, Bool, true, false, List, [], ◌∷◌, nat_eq}
 use Rattle.std.specs.declared.option.Option.{Option}
 use Rattle.std.specs.declared.option.Option.TheVariants.{Some, None}
+use Rattle.g_graph.specs.declared.op.Op.{Op}
+use Rattle.g_graph.specs.declared.op.Op.TheVariants.{Gamma}
 use Rattle.g_graph.specs.declared.op.Origin.{Origin}
 use Rattle.g_graph.specs.Plain.{NodeTree}
 use Rattle.g_graph.specs.WellFormed.{some_of}
@@ -28,6 +30,15 @@ used_by n u os = if some_of (is_output_of n) os then u else Nobody
 -- Node x has place k among the nodes that are written; a predicate is no entry.
 abbrev pub node_user : (n k : ℕ) → NodeTree → User
 node_user n k x = if node_uses n x then (if takes n x then Entries k else Others) else Nobody
+
+abbrev pub is_gamma : Op → Bool
+is_gamma Gamma = true
+is_gamma op = false
+
+-- the same of the inputs of a Gamma
+abbrev pub gamma_user : (n k : ℕ) → (inputs : List Origin) → User
+gamma_user n k [] = Nobody
+gamma_user n k (p ∷ entries) = if is_output_of n p then Others else used_by n (Entries k) entries
 
 -- nodes that are written, from a place on
 abbrev pub users_from : (n k : ℕ) → List NodeTree → User

@@ -1,12 +1,12 @@
 //! A node that is written, or moves into one that is.
 
-ghost use Rattle.std.specs.Prelude.{◌≡◌, ◌∷◌, ◌++◌, [], ℕ, List, None, OnOk, IfSome, length};
+ghost use Rattle.std.specs.Prelude.{◌≡◌, ◌∷◌, ◌++◌, [], ℕ, List, None, true, OnOk, IfSome, length};
 ghost use Rattle.g_graph.specs.declared.op.Origin.{Origin};
 ghost use Rattle.g_graph.specs.declared.steps.Rule.TheVariants.{Pull};
 ghost use Rattle.g_graph.specs.Plain.{id_of, inputs_in};
 ghost use Rattle.r_pull_laws.specs.Walk.{put_where};
 ghost use Rattle.r_pull_walk.specs.declared.users.User.TheVariants.{Entries};
-ghost use Rattle.r_pull_walk.specs.Behind.{behind, CanLeave, IsWritten};
+ghost use Rattle.r_pull_walk.specs.Behind.{behind, can_leave, IsWritten};
 ghost use Rattle.r_pull_walk.specs.Users.{both_use, node_user, user_in, AreUsers, carried_with, user_after};
 ghost use Rattle.r_walk.specs.Asks.{walking};
 ghost use Rattle.r_walk.specs.Walks.{HasGained};
@@ -43,17 +43,24 @@ pub fn put(
 // The place of the one Gamma that uses the node, by entries alone, where the node may leave.
 fn gamma_of(node: &Node, users: &Users) -> Option<usize>
     ensures user { IfSome result (λ place. user_in users.now (id_of node.now) ≡ Entries place) }
-    ensures leaves { IfSome result (λ _. CanLeave node.now) }
+    ensures leaves { IfSome result (λ _. can_leave node.now ≡ true) }
     ensures none { result ≡ None → (place : ℕ) →
-        user_in users.now (id_of node.now) ≡ Entries place → CanLeave node.now → ⊥ }
+        user_in users.now (id_of node.now) ≡ Entries place → can_leave node.now ≡ true → ⊥ }
 {
-    if !is_pure(node.op) || !node.regions.is_empty() {
+    if !can_leave(node) {
         return None;
     }
     match users.user_of(node.id) {
         User::Entries(place) => Some(place),
         _ => None,
     }
+}
+
+#[tactic(auto, using(r_pull::proofs::Found::has_none_of))]
+fn can_leave(node: &Node) -> bool
+    ensures { result ≡ can_leave node.now }
+{
+    is_pure(node.op) && node.regions.is_empty()
 }
 
 // The node moves into the Gamma of this place, where it may, or is written.
@@ -67,17 +74,17 @@ fn put_into(
     written: &mut Vec<Node>,
 ) -> Result<(), NoMemory>
     requires user { user_in users.old (id_of node) ≡ Entries place }
-    requires leaves { CanLeave node }
+    requires leaves { can_leave node ≡ true }
     ensures ok { OnOk result ((results : List Origin) → AreUsers users.old results written.old.items →
         IsWritten results (put_where node results (behind written.old.items
         (walking counts.old.values counts.old.next log.old.items)))
         written.new.items users.new (walking counts.new.values counts.new.next log.new.items)) }
     ensures gained { HasGained log.old.items log.new.items }
 {
-    let Some(gamma) = written.get_mut(place) else {
+    if place >= written.len() {
         return Ok(());
-    };
-    match pull_into(alloc, gamma, &node, counts.values, counts.next)? {
+    }
+    match pull_into(alloc, &mut written[place], &node, counts.values, counts.next)? {
         Some(moved) => step(&node, place, &moved, users, counts, log),
         None => write(node, users, written),
     }

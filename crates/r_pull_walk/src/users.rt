@@ -6,7 +6,7 @@ ghost use Rattle.g_graph.specs.Plain.{id_of, inputs_in};
 ghost use Rattle.g_graph.specs.WellFormed.{some_of};
 ghost use Rattle.r_edit.specs.Uses.{is_output_of};
 ghost use Rattle.r_pull_walk.specs.declared.users.User.TheVariants.{Nobody, Entries, Others};
-ghost use Rattle.r_pull_walk.specs.Users.{both_use, used_by, node_user, user_in, AreUsers, carried_with, user_after};
+ghost use Rattle.r_pull_walk.specs.Users.{both_use, used_by, is_gamma, gamma_user, node_user, user_in, AreUsers, carried_with, user_after};
 
 use g_graph::{Node, Op, Origin};
 use indexmap::IndexMap;
@@ -55,9 +55,10 @@ impl Users {
         ensures { OnOk result ((n : ℕ) → user_in self.new n ≡
             both_use (user_in self.old n) (node_user n place node.now)) }
     {
-        match (node.op, node.inputs.as_slice().split_first()) {
-            (Op::Gamma, Some((predicate, entries))) => self.note_gamma(*predicate, entries, place),
-            _ => self.note_all(node.inputs.as_slice(), User::Others),
+        if is_gamma(node.op) {
+            self.note_gamma(node.inputs.as_slice(), place)
+        } else {
+            self.note_all(node.inputs.as_slice(), User::Others)
         }
     }
 
@@ -73,17 +74,18 @@ impl Users {
         Ok(())
     }
 
-    fn note_gamma(
-        &mut self,
-        predicate: Origin,
-        entries: &[Origin],
-        place: usize,
-    ) -> Result<(), NoMemory>
-        ensures { OnOk result ((n : ℕ) → user_in self.new n ≡ both_use (user_in self.old n)
-            (if is_output_of n predicate then Others else used_by n (Entries place) entries.now)) }
+    // The inputs of the Gamma of this place.
+    fn note_gamma(&mut self, inputs: &[Origin], place: usize) -> Result<(), NoMemory>
+        ensures { OnOk result ((n : ℕ) → user_in self.new n ≡
+            both_use (user_in self.old n) (gamma_user n place inputs.now)) }
     {
-        self.note(predicate, User::Others)?;
-        self.note_all(entries, User::Entries(place))
+        match inputs.split_first() {
+            Some((predicate, entries)) => {
+                self.note(*predicate, User::Others)?;
+                self.note_all(entries, User::Entries(place))
+            }
+            None => Ok(()),
+        }
     }
 
     // These origins are used so.
@@ -116,6 +118,15 @@ impl Users {
     {
         self.users.insert(node, user)?;
         Ok(())
+    }
+}
+
+fn is_gamma(op: Op) -> bool
+    ensures { result ≡ is_gamma op }
+{
+    match op {
+        Op::Gamma => true,
+        _ => false,
     }
 }
 
