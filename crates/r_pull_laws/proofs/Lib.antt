@@ -1,3 +1,4 @@
+mod Examples
 mod Places
 mod Step
 mod Walks

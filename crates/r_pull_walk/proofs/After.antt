@@ -111,15 +111,14 @@ kept_others n m carried (a ∷ entries) e = by (is_output_of n a) refl (kept_oth
 
 -- ---- the uses that it then makes
 
-module _ (next n k : ℕ) (x g : NodeTree) (t : Taking n g) where
+module _ (next n k : ℕ) (g : NodeTree) (t : Taking n g) where
   abbrev whole : NodeTree
   whole = node t.id Gamma (t.predicate ∷ t.entries) t.regions
 
-  abbrev carried : List Origin
-  carried = inputs_carried n (pull_into x whole)
-
-  other_user : (m : ℕ) → (m == n) ≡ false → node_user m k (gamma_pulled next n (pull_into x whole) whole) ≡ both_use (node_user m k whole) (used_by m (Entries k) carried)
-  other_user m e =
+  other_user : (x : NodeTree) (m : ℕ) → (m == n) ≡ false →
+      node_user m k (gamma_pulled next n (pull_into x whole) whole) ≡ both_use (node_user m k whole) (used_by m (Entries k) (inputs_carried n (pull_into x whole)))
+  other_user (node id op inputs rs) m e =
+      let carried = inputs_carried n (pull_into (node id op inputs rs) whole) in
       ap (λ s. cond (is_output_of m t.predicate || s) (cond (not (is_output_of m t.predicate)) (Entries k) Others) Nobody) (kept_others n m carried t.entries e)
       ∙ by (is_output_of m t.predicate) (some_of (is_output_of m) t.entries) (some_of (is_output_of m) carried)
     where
@@ -131,9 +130,9 @@ module _ (next n k : ℕ) (x g : NodeTree) (t : Taking n g) where
       by false false true = refl
       by false false false = refl
 
-  own_user : node_user n k (gamma_pulled next n (pull_into x whole) whole) ≡ used_by n (Entries k) carried
-  own_user =
-      ap₂ (λ p s. cond (p || s) (cond (not p) (Entries k) Others) Nobody) t.no_predicate (kept_itself n carried t.entries)
+  own_user : (x : NodeTree) → node_user n k (gamma_pulled next n (pull_into x whole) whole) ≡ used_by n (Entries k) (inputs_carried n (pull_into x whole))
+  own_user (node id op inputs rs) =
+      ap₂ (λ p s. cond (p || s) (cond (not p) (Entries k) Others) Nobody) t.no_predicate (kept_itself n (inputs_carried n (pull_into (node id op inputs rs) whole)) t.entries)
 
 -- ---- all users after the move
 
@@ -165,7 +164,7 @@ module _ (next n k : ℕ) (x : NodeTree) (results : List Origin) (ws : List Node
       let front = users_from m 0 u.entry.earlier in
       let back = users_from m (suc k) u.entry.later in
       let same = subst (λ y. node_user m k (gamma_pulled next n (pull_into x y) y) ≡ both_use (node_user m k y) (used_by m (Entries k) (inputs_carried n (pull_into x y)))) (sym t.is)
-      (other_user next n k x g t m e) in
+      (other_user next n k g t x m e) in
       users_with now m ∙ ap (λ z. both_use r (both_use front (both_use z back))) same
       ∙ move_last r front (node_user m k g) (used_by m (Entries k) taken) back
       ∙ ap (λ z. both_use z (used_by m (Entries k) taken)) (sym (users_with g m) ∙ ap (λ vs. user_among results vs m) (sym u.entry.is))
@@ -173,7 +172,7 @@ module _ (next n k : ℕ) (x : NodeTree) (results : List Origin) (ws : List Node
   own_after : user_among results (u.entry.earlier ++ now ∷ u.entry.later) n ≡ used_by n (Entries k) taken
   own_after =
       let t = taking n g u.entry.takes_it in
-      let same = subst (λ y. node_user n k (gamma_pulled next n (pull_into x y) y) ≡ used_by n (Entries k) (inputs_carried n (pull_into x y))) (sym t.is) (own_user next n k x g t) in
+      let same = subst (λ y. node_user n k (gamma_pulled next n (pull_into x y) y) ≡ used_by n (Entries k) (inputs_carried n (pull_into x y))) (sym t.is) (own_user next n k g t x) in
       users_with now n
       ∙ ap₂ both_use (ap (λ s. cond s Others Nobody) u.no_result)
       (ap₂ both_use (none_use n 0 u.entry.earlier u.entry.none_earlier) (ap₂ both_use same (none_use n (suc k) u.entry.later u.entry.none_later)))

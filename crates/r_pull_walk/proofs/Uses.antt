@@ -149,14 +149,20 @@ set_use old new node u now e is n = is n ∙ by (n == node) refl
     by false q = sym (use_none (old n))
 
 -- the inputs of a node that moved, with copies and without
-pub with_copies : (n id place copies : ℕ) (old mid : User) (inputs : List Origin) → (copies ≡ 0 → ⊥) → mid ≡ cond (n == id) Nobody old →
-    both_use mid (used_by n (Entries place) inputs) ≡ user_after id place (carried_with copies inputs) n old
-with_copies n id place zero old mid inputs some e = absurd (some refl)
-with_copies n id place (suc copies) old mid inputs some e = ap (λ v. both_use v (used_by n (Entries place) inputs)) e
+module _ (n id place copies : ℕ) (old mid : User) (inputs : List Origin) (is : mid ≡ cond (n == id) Nobody old) where
+  pub with_copies : (copies ≡ 0 → ⊥) → both_use mid (used_by n (Entries place) inputs) ≡ user_after id place (carried_with copies inputs) n old
+  with_copies some = ap (λ v. both_use v (used_by n (Entries place) inputs)) is ∙ by (copies == 0) refl
+    where
+      by : (t : Bool) → (copies == 0) ≡ t → both_use (cond (n == id) Nobody old) (used_by n (Entries place) inputs) ≡ user_after id place (cond t [] inputs) n old
+      by true q = absurd (some (same_number copies 0 q))
+      by false q = refl
 
-pub without_copies : (n id place copies : ℕ) (old mid : User) (inputs : List Origin) → copies ≡ 0 → mid ≡ cond (n == id) Nobody old → mid ≡ user_after id place (carried_with copies inputs) n old
-without_copies n id place zero old mid inputs none e = e ∙ sym (use_none (cond (n == id) Nobody old))
-without_copies n id place (suc copies) old mid inputs none e = absurd (omega (arith, none))
+  pub without_copies : copies ≡ 0 → mid ≡ user_after id place (carried_with copies inputs) n old
+  without_copies none = is ∙ by (copies == 0) refl
+    where
+      by : (t : Bool) → (copies == 0) ≡ t → cond (n == id) Nobody old ≡ user_after id place (cond t [] inputs) n old
+      by true q = sym (use_none (cond (n == id) Nobody old))
+      by false q = absurd (grind (arith, nat_tests, q, none))
 
 -- ---- nodes
 

@@ -2,12 +2,12 @@
 use Rattle.std.specs.Prelude.{option_and_then}
 use Rattle.std.proofs.Common.{◌≡◌, ◌<◌, ◌⊎◌, ℕ, suc, ◌+◌, ◌==◌, ◌&&◌, ◌||◌, not, Bool, true, false, cond, List, [], ◌∷◌, ◌++◌, length, Option, None, Some, option_map, refl, sym, ap, ap₂, subst, ◌∙◌, arith}
 use Rattle.std.proofs.lemmas.Bool.{or_parts}
-use Rattle.std.proofs.lemmas.Bool.Decides.{nat_tests}
 use Rattle.g_graph.specs.declared.op.Op.{Op}
 use Rattle.g_graph.specs.declared.op.Origin.{Origin}
 use Rattle.g_graph.specs.Plain.{region, NodeTree, node, NodeTrees, no_nodes, node_then, RegionTrees, id_of, has_none}
 use Rattle.g_graph.specs.Signatures.{is_pure}
 use Rattle.g_graph.specs.WellFormed.{some_of}
+use Rattle.g_graph.proofs.lemmas.Unique.{same_number}
 use Rattle.r_edit.specs.Uses.{nodes_read, is_output_of}
 use Rattle.r_pull.specs.Rule.{node_uses, only_user, user_changed, where_fits, Pull}
 use Rattle.r_pull.specs.Edit.{takes, where_takes, user_of, pull_into}
@@ -127,7 +127,7 @@ module _ (n : ℕ) where
           two : (s : Bool) → (k == i) ≡ s → cond s (Entries k) Others ≡ Entries j → Entry k j (x ∷ xs)
           two false p f = absurd cc
           two true p f =
-              let same : k ≡ i = grind (arith, nat_tests, p) in
+              let same : k ≡ i = same_number k i p in
               absurd (omega (arith, same, (entry_from (suc k) i xs q).place))
 
       by : (s : Bool) → node_uses n x ≡ s → (t : Bool) → takes n x ≡ t → both_use (cond s (cond t (Entries k) Others) Nobody) (users_from n (suc k) xs) ≡ Entries j → Entry k j (x ∷ xs)
@@ -198,7 +198,7 @@ module _ (n : ℕ) where
     where
       by : (t : Bool) → (j == k) ≡ t → Seen (suc k) (cond t (Entries j) Others) (node_then x ns)
       by true q =
-          let same : j ≡ k = grind (arith, nat_tests, q) in
+          let same : j ≡ k = same_number j k q in
           absurd (omega (arith, same, h.0))
       by false q = second x ns e h.1
 
