@@ -1,11 +1,9 @@
 -- Uses one after the other.
-use Rattle.std.proofs.Common.{◌≡◌, ℕ, zero, suc, ◌+◌, ◌==◌, ◌||◌, not, Bool, true, false, cond, List, [], ◌∷◌, ◌++◌, length, refl, sym, ap, ap₂, ◌∙◌, arith}
+use Rattle.std.proofs.Common.{◌≡◌, ℕ, suc, ◌+◌, ◌==◌, ◌||◌, Bool, true, false, cond, List, [], ◌∷◌, ◌++◌, length, refl, sym, ap, ap₂, ◌∙◌, arith}
 use Rattle.std.proofs.lemmas.Bool.{or_parts}
 use Rattle.std.proofs.lemmas.Bool.Decides.{nat_tests}
-use Rattle.g_graph.specs.declared.op.Op.{Op}
-use Rattle.g_graph.specs.declared.op.Op.TheVariants.{Const, Undef, Local, Delta, Bin, Un, Load, Store, Clear, PtrEq, Apply, Put, Exit, Get, Gamma, Theta}
 use Rattle.g_graph.specs.declared.op.Origin.{Origin}
-use Rattle.g_graph.specs.Plain.{NodeTree, node, RegionTrees}
+use Rattle.g_graph.specs.Plain.{NodeTree}
 use Rattle.g_graph.specs.WellFormed.{some_of}
 use Rattle.g_graph.proofs.lemmas.Indexes.{same_number_true}
 use Rattle.g_graph.proofs.lemmas.Unique.{same_number}
@@ -14,7 +12,7 @@ use Rattle.r_pull.specs.Edit.{takes}
 use Rattle.r_pull.specs.Rule.{node_uses}
 use Rattle.r_pull_walk.specs.declared.users.User.{User}
 use Rattle.r_pull_walk.specs.declared.users.User.TheVariants.{Nobody, Entries, Others}
-use Rattle.r_pull_walk.specs.Users.{both_use, used_by, is_gamma, gamma_user, node_user, users_from, carried_with, user_after}
+use Rattle.r_pull_walk.specs.Users.{both_use, used_by, node_user, users_from}
 
 pub use_none : (u : User) → both_use u Nobody ≡ u
 use_none Nobody = refl
@@ -86,83 +84,6 @@ more_origins n u old new o os e = ap (λ v. both_use v (used_by n u os)) e ∙ b
     by true true = use_assoc old u u ∙ ap (both_use old) (same_use u)
     by true false = use_none (both_use old u)
     by false t = ap (λ v. both_use v (cond t u Nobody)) (use_none old)
-
--- the predicate and the entries of a Gamma
-pub gamma_noted : (n k : ℕ) (old new : User) (p : Origin) (entries : List Origin) → new ≡ both_use old (cond (is_output_of n p) Others Nobody) →
-    both_use new (used_by n (Entries k) entries) ≡ both_use old (gamma_user n k (p ∷ entries))
-gamma_noted n k old new p entries e = ap (λ v. both_use v (used_by n (Entries k) entries)) e ∙ by (is_output_of n p) (some_of (is_output_of n) entries)
-  where
-    by : (s t : Bool) → both_use (both_use old (cond s Others Nobody)) (cond t (Entries k) Nobody) ≡ both_use old (cond s Others (cond t (Entries k) Nobody))
-    by true t = ap (λ v. both_use v (cond t (Entries k) Nobody)) (use_others old) ∙ sym (use_others old)
-    by false t = ap (λ v. both_use v (cond t (Entries k) Nobody)) (use_none old)
-
--- a Gamma, and another node
-pub gamma_is : (n k id : ℕ) (op : Op) (inputs : List Origin) (rs : RegionTrees) → is_gamma op ≡ true → gamma_user n k inputs ≡ node_user n k (node id op inputs rs)
-gamma_is n k id Gamma [] rs e = refl
-gamma_is n k id Gamma (p ∷ entries) rs e = by (is_output_of n p) (some_of (is_output_of n) entries)
-  where
-    by : (s t : Bool) → cond s Others (cond t (Entries k) Nobody) ≡ cond (s || t) (cond (not s) (Entries k) Others) Nobody
-    by true t = refl
-    by false t = refl
-gamma_is n k id (Const w) inputs rs e = absurd cc
-gamma_is n k id Undef inputs rs e = absurd cc
-gamma_is n k id (Local j) inputs rs e = absurd cc
-gamma_is n k id (Delta j) inputs rs e = absurd cc
-gamma_is n k id (Bin o) inputs rs e = absurd cc
-gamma_is n k id (Un o) inputs rs e = absurd cc
-gamma_is n k id (Load w) inputs rs e = absurd cc
-gamma_is n k id (Store w) inputs rs e = absurd cc
-gamma_is n k id (Clear j) inputs rs e = absurd cc
-gamma_is n k id PtrEq inputs rs e = absurd cc
-gamma_is n k id (Apply f) inputs rs e = absurd cc
-gamma_is n k id Put inputs rs e = absurd cc
-gamma_is n k id Exit inputs rs e = absurd cc
-gamma_is n k id Get inputs rs e = absurd cc
-gamma_is n k id Theta inputs rs e = absurd cc
-
-pub other_is : (n k id : ℕ) (op : Op) (inputs : List Origin) (rs : RegionTrees) → is_gamma op ≡ false → used_by n Others inputs ≡ node_user n k (node id op inputs rs)
-other_is n k id Gamma inputs rs e = absurd cc
-other_is n k id (Const w) inputs rs e = refl
-other_is n k id Undef inputs rs e = refl
-other_is n k id (Local j) inputs rs e = refl
-other_is n k id (Delta j) inputs rs e = refl
-other_is n k id (Bin o) inputs rs e = refl
-other_is n k id (Un o) inputs rs e = refl
-other_is n k id (Load w) inputs rs e = refl
-other_is n k id (Store w) inputs rs e = refl
-other_is n k id (Clear j) inputs rs e = refl
-other_is n k id PtrEq inputs rs e = refl
-other_is n k id (Apply f) inputs rs e = refl
-other_is n k id Put inputs rs e = refl
-other_is n k id Exit inputs rs e = refl
-other_is n k id Get inputs rs e = refl
-other_is n k id Theta inputs rs e = refl
-
--- the table with one number more
-pub set_use : (old new : ℕ → User) (node : ℕ) (u now : User) → now ≡ both_use (old node) u → ((n : ℕ) → new n ≡ cond (n == node) now (old n)) → (n : ℕ) → new n ≡ both_use (old n) (cond (n == node) u Nobody)
-set_use old new node u now e is n = is n ∙ by (n == node) refl
-  where
-    by : (t : Bool) → (n == node) ≡ t → cond t now (old n) ≡ both_use (old n) (cond t u Nobody)
-    by true q =
-        let same : n ≡ node = same_number n node q in
-        e ∙ ap (λ k. both_use (old k) u) (sym same)
-    by false q = sym (use_none (old n))
-
--- the inputs of a node that moved, with copies and without
-module _ (n id place copies : ℕ) (old mid : User) (inputs : List Origin) (is : mid ≡ cond (n == id) Nobody old) where
-  pub with_copies : (copies ≡ 0 → ⊥) → both_use mid (used_by n (Entries place) inputs) ≡ user_after id place (carried_with copies inputs) n old
-  with_copies some = ap (λ v. both_use v (used_by n (Entries place) inputs)) is ∙ by (copies == 0) refl
-    where
-      by : (t : Bool) → (copies == 0) ≡ t → both_use (cond (n == id) Nobody old) (used_by n (Entries place) inputs) ≡ user_after id place (cond t [] inputs) n old
-      by true q = absurd (some (same_number copies 0 q))
-      by false q = refl
-
-  pub without_copies : copies ≡ 0 → mid ≡ user_after id place (carried_with copies inputs) n old
-  without_copies none = is ∙ by (copies == 0) refl
-    where
-      by : (t : Bool) → (copies == 0) ≡ t → cond (n == id) Nobody old ≡ user_after id place (cond t [] inputs) n old
-      by true q = sym (use_none (cond (n == id) Nobody old))
-      by false q = absurd (grind (arith, nat_tests, q, none))
 
 -- ---- nodes
 
