@@ -84,7 +84,13 @@ fn put_into(
     if place >= written.len() {
         return Ok(());
     }
-    match pull_into(alloc, &mut written[place], &node, counts.values, counts.next)? {
+    match pull_into(
+        alloc,
+        &mut written[place],
+        &node,
+        counts.values,
+        counts.next,
+    )? {
         Some(moved) => step(&node, place, &moved, users, counts, log),
         None => write(node, users, written),
     }

@@ -1,7 +1,6 @@
 //! Which Gamma takes a node's outputs.
 
 ghost use Rattle.std.specs.Prelude.{◌≡◌, ◌==◌, ℕ, [], OnOk, IfOk, if◌then◌else◌};
-
 ghost use Rattle.g_graph.specs.Plain.{id_of, inputs_in};
 ghost use Rattle.g_graph.specs.WellFormed.{some_of};
 ghost use Rattle.r_edit.specs.Uses.{is_output_of};

@@ -45,11 +45,7 @@ fn with_body(lambda: Lambda, body: Region, next: u32) -> Lambda
     lambda
 }
 
-fn walk_body(
-    alloc: Global,
-    lambda: &Lambda,
-    log: &mut Vec<Step>,
-) -> Result<(Region, u32), NoMemory>
+fn walk_body(alloc: Global, lambda: &Lambda, log: &mut Vec<Step>) -> Result<(Region, u32), NoMemory>
     ensures ok { IfOk result (λ made.
         record { lambda = record lambda.now { body = made.0; next = made.1 }; steps = log.new.items } ≡
         walked (record { lambda = lambda.now; steps = log.old.items })) }
