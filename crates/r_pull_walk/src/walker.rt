@@ -3,7 +3,7 @@
 ghost use Rattle.std.specs.Prelude.{◌≡◌, List, IfOk, OnOk};
 ghost use Rattle.g_graph.specs.declared.op.Origin.{Origin};
 ghost use Rattle.g_graph.specs.Plain.{node, nodes_of, regions_of, id_of, op_of, inputs_in};
-ghost use Rattle.r_pull_laws.specs.Walk.{walk_region, walk_regions, walk_nodes, walk_node, walked};
+ghost use Rattle.r_pull_laws.specs.Walk.{put_where, walk_region, walk_regions, walk_nodes, walk_node, walked};
 ghost use Rattle.r_pull_walk.specs.Behind.{behind, IsWritten};
 ghost use Rattle.r_pull_walk.specs.Users.{AreUsers};
 ghost use Rattle.r_walk.specs.Asks.{walking};
@@ -151,7 +151,27 @@ fn walk_node(
     ensures gained { HasGained log.old.items log.new.items }
 {
     let regions = walk_regions(alloc, &node.regions, counts, log)?;
-    let new = with_regions(alloc, node, regions)?;
+    put_with(alloc, node, regions, users, counts, log, written)
+}
+
+// The node with these regions moves into one that is written, where it may, or is written.
+#[inline(never)]
+fn put_with(
+    alloc: Global,
+    old: &Node,
+    regions: Vec<Region>,
+    users: &mut Users,
+    counts: &mut Counts,
+    log: &mut Vec<Step>,
+    written: &mut Vec<Node>,
+) -> Result<(), NoMemory>
+    ensures ok { OnOk result ((results : List Origin) → AreUsers users.old results written.old.items →
+        IsWritten results (put_where (node (id_of old.now) (op_of old.now) (inputs_in old.now) (regions_of regions.items))
+        results (behind written.old.items (walking counts.old.values counts.old.next log.old.items)))
+        written.new.items users.new (walking counts.new.values counts.new.next log.new.items)) }
+    ensures gained { HasGained log.old.items log.new.items }
+{
+    let new = with_regions(alloc, old, regions)?;
     put(alloc, new, users, counts, log, written)
 }
 
