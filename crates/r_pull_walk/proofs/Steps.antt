@@ -19,6 +19,9 @@ use Rattle.r_pull_walk.proofs.After.{node_behind, users_written, users_moved, ow
 use Rattle.r_pull_walk.proofs.Written.{Used, used_at, stays_behind, moves_behind, changed_entry}
 use Rattle.r_walk_def.specs.Walk.{Walking, stepped}
 
+some_is_none : {X : Type 0} (y : X) → Some y ≡ None → ⊥
+some_is_none y e = absurd cc
+
 module _ (x : NodeTree) (results : List Origin) (ws : List NodeTree) (w : Walking) (users : Users) (are : AreUsers users results ws) where
   -- it is written
   module _ (ws' : List NodeTree) (users' : Users) (nodes : ws' ≡ ws ++ x ∷ []) (noted : (n : ℕ) → user_in users' n ≡ both_use (user_in users n) (node_user n (length ws) x)) where
@@ -58,7 +61,7 @@ module _ (x : NodeTree) (results : List Origin) (ws : List NodeTree) (w : Walkin
 
     -- there is one
     pub is_there : slice_get ws place ≡ None → ⊥
-    is_there none = absurd (let same : Some used.entry.gamma ≡ None = sym found ∙ none in cc)
+    is_there none = some_is_none used.entry.gamma (sym found ∙ none)
 
     module _ (g : NodeTree) (at : slice_get ws place ≡ Some g) where
       same_gamma : g ≡ used.entry.gamma
@@ -66,6 +69,9 @@ module _ (x : NodeTree) (results : List Origin) (ws : List NodeTree) (w : Walkin
 
       moves_is : pull_behind x results (behind ws w) ≡ where_fits w.values w.next (id_of x) (pull_into x g)
       moves_is = moves_behind x results ws w place used leaves ∙ ap (λ y. where_fits w.values w.next (id_of x) (pull_into x y)) (sym same_gamma)
+
+      abbrev pulled : rule.Pull
+      pulled = pull_into x used.entry.gamma
 
       none_fits : (o : Option rule.Pull) → None ≡ option_map (moved_of (id_of x)) o → o ≡ None
       none_fits None e = refl
@@ -88,25 +94,19 @@ module _ (x : NodeTree) (results : List Origin) (ws : List NodeTree) (w : Walkin
           w' ≡ stepped Pull (id_of x) m.gone m.added m.copies w → IsWritten results (put_where x results (behind ws w)) ws' users' w'
       moved m users' ws' w' e changed noted now = by (fits w.values w.next (id_of x) (pull_into x g)) refl
         where
-          abbrev n : ℕ
-          n = id_of x
-
-          abbrev h : rule.Pull
-          h = pull_into x used.entry.gamma
-
           by : (t : Bool) → fits w.values w.next (id_of x) (pull_into x g) ≡ t → IsWritten results (put_where x results (behind ws w)) ws' users' w'
-          by false q = absurd (let none : Some m ≡ None = e ∙ ap (λ t. option_map (moved_of n) (cond t (Some (pull_into x g)) None)) q in cc)
+          by false q = absurd (some_is_none m (e ∙ ap (λ t. option_map (moved_of (id_of x)) (cond t (Some (pull_into x g)) None)) q))
           by true q =
-              let fitting : where_fits w.values w.next n (pull_into x g) ≡ Some h = ap (λ t. cond t (Some (pull_into x g)) None) q ∙ ap (λ y. Some (pull_into x y)) same_gamma in
-              let counts : m ≡ moved_of n h = same_Some m (moved_of n h) (e ∙ ap (option_map (moved_of n)) fitting) in
-              let nodes : ws' ≡ used.entry.earlier ++ gamma_pulled w.next n h used.entry.gamma ∷ used.entry.later =
-              changed ∙ ap (λ o. slice_set ws place (gamma_after w.next n o g)) fitting ∙ ap (λ y. slice_set ws place (gamma_pulled w.next n h y)) same_gamma
-              ∙ set_at (gamma_pulled w.next n h used.entry.gamma) in
+              let fitting : where_fits w.values w.next (id_of x) (pull_into x g) ≡ Some pulled = ap (λ t. cond t (Some (pull_into x g)) None) q ∙ ap (λ y. Some (pull_into x y)) same_gamma in
+              let counts : m ≡ moved_of (id_of x) pulled = same_Some m (moved_of (id_of x) pulled) (e ∙ ap (option_map (moved_of (id_of x))) fitting) in
+              let nodes : ws' ≡ used.entry.earlier ++ gamma_pulled w.next (id_of x) pulled used.entry.gamma ∷ used.entry.later =
+              changed ∙ ap (λ o. slice_set ws place (gamma_after w.next (id_of x) o g)) fitting ∙ ap (λ y. slice_set ws place (gamma_pulled w.next (id_of x) pulled y)) same_gamma
+              ∙ set_at (gamma_pulled w.next (id_of x) pulled used.entry.gamma) in
               record {
-                is = ap₂ behind nodes (now ∙ ap (λ (k : Moved). stepped Pull n k.gone k.added k.copies w) counts)
-                    ∙ ap (λ ns. record { nodes = ns; now = stepped Pull n (gone n h) (added n h) (copies_of n h) w })
-                    (sym (changed_entry n 0 place ws used.entry (gamma_pulled w.next n h)))
+                is = ap₂ behind nodes (now ∙ ap (λ (k : Moved). stepped Pull (id_of x) k.gone k.added k.copies w) counts)
+                    ∙ ap (λ ns. record { nodes = ns; now = stepped Pull (id_of x) (gone (id_of x) pulled) (added (id_of x) pulled) (copies_of (id_of x) pulled) w })
+                    (sym (changed_entry (id_of x) 0 place ws used.entry (gamma_pulled w.next (id_of x) pulled)))
                     ∙ ap (put x (behind ws w)) (sym (moves_is ∙ fitting));
-                users_are = λ k. noted k ∙ ap (user_after n place (carried_with m.copies (inputs_in x)) k) (are k)
-                    ∙ users_moved w.next n place x results ws used m.copies (ap (λ (j : Moved). j.copies) counts) (own_inputs x used.entry.gamma) k ∙ ap (λ vs. user_among results vs k) (sym nodes);
+                users_are = λ k. noted k ∙ ap (user_after (id_of x) place (carried_with m.copies (inputs_in x)) k) (are k)
+                    ∙ users_moved w.next (id_of x) place x results ws used m.copies (ap (λ (j : Moved). j.copies) counts) (own_inputs x used.entry.gamma) k ∙ ap (λ vs. user_among results vs k) (sym nodes);
               }
