@@ -201,4 +201,4 @@ module _ (next n k : ℕ) (x : NodeTree) (results : List Origin) (ws : List Node
 
 -- the inputs that move are those of the node
 pub own_inputs : (x g : NodeTree) → inputs_in x ≡ (pull_into x g).inputs
-own_inputs (node id op inputs rs) (node gamma own entries regions) = refl
+own_inputs (node id op inputs rs) (node gamma own entries qs) = refl

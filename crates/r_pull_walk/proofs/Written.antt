@@ -89,51 +89,52 @@ module _ (n : ℕ) where
     pub uses : node_uses n gamma ≡ true
     pub takes_it : takes n gamma ≡ true
 
+  later_entry : (k j : ℕ) (x : NodeTree) (xs : List NodeTree) → node_uses n x ≡ false → Entry (suc k) j xs → Entry k j (x ∷ xs)
+  later_entry k j x xs u h =
+      record {
+        earlier = x ∷ h.earlier;
+        gamma = h.gamma;
+        later = h.later;
+        is = ap (λ ys. x ∷ ys) h.is;
+        place = omega (arith, h.place);
+        none_earlier = λ i. u i || h.none_earlier i;
+        none_later = h.none_later;
+        uses = h.uses;
+        takes_it = h.takes_it;
+      }
+
+  first_entry : (k j : ℕ) (x : NodeTree) (xs : List NodeTree) → node_uses n x ≡ true → takes n x ≡ true → ((i : ℕ) → users_from n (suc k) xs ≡ Entries i → Entry (suc k) i xs) →
+      (v : User) → users_from n (suc k) xs ≡ v → both_use (Entries k) v ≡ Entries j → Entry k j (x ∷ xs)
+  first_entry k j x xs u t rest Nobody q d =
+      record {
+        earlier = [];
+        gamma = x;
+        later = xs;
+        is = refl;
+        place = (let same : k ≡ j = cc in omega (arith, same));
+        none_earlier = refl;
+        none_later = unused (suc k) xs q;
+        uses = u;
+        takes_it = t;
+      }
+  first_entry k j x xs u t rest Others q d = absurd cc
+  first_entry k j x xs u t rest (Entries i) q d = two (k == i) refl d (rest i q)
+    where
+      two : (s : Bool) → (k == i) ≡ s → cond s (Entries k) Others ≡ Entries j → Entry (suc k) i xs → Entry k j (x ∷ xs)
+      two false p f h = absurd cc
+      two true p f h =
+          let same : k ≡ i = same_number k i p in
+          absurd (omega (arith, same, h.place))
+
   entry_from : (k j : ℕ) (ws : List NodeTree) → users_from n k ws ≡ Entries j → Entry k j ws
   entry_from k j [] e = absurd cc
-  entry_from k j (x ∷ xs) e = by (node_uses n x) refl (takes n x) refl e
+  entry_from k j (x ∷ xs) e = by (node_uses n x) refl (takes n x) refl e (λ i d. entry_from (suc k) i xs d)
     where
-      later : users_from n (suc k) xs ≡ Entries j → node_uses n x ≡ false → Entry k j (x ∷ xs)
-      later d u =
-          let h = entry_from (suc k) j xs d in
-          record {
-            earlier = x ∷ h.earlier;
-            gamma = h.gamma;
-            later = h.later;
-            is = ap (λ ys. x ∷ ys) h.is;
-            place = omega (arith, h.place);
-            none_earlier = λ i. u i || h.none_earlier i;
-            none_later = h.none_later;
-            uses = h.uses;
-            takes_it = h.takes_it;
-          }
-
-      here : node_uses n x ≡ true → takes n x ≡ true → (v : User) → users_from n (suc k) xs ≡ v → both_use (Entries k) v ≡ Entries j → Entry k j (x ∷ xs)
-      here u t Nobody q d =
-          record {
-            earlier = [];
-            gamma = x;
-            later = xs;
-            is = refl;
-            place = (let same : k ≡ j = cc in omega (arith, same));
-            none_earlier = refl;
-            none_later = unused (suc k) xs q;
-            uses = u;
-            takes_it = t;
-          }
-      here u t Others q d = absurd cc
-      here u t (Entries i) q d = two (k == i) refl d
-        where
-          two : (s : Bool) → (k == i) ≡ s → cond s (Entries k) Others ≡ Entries j → Entry k j (x ∷ xs)
-          two false p f = absurd cc
-          two true p f =
-              let same : k ≡ i = same_number k i p in
-              absurd (omega (arith, same, (entry_from (suc k) i xs q).place))
-
-      by : (s : Bool) → node_uses n x ≡ s → (t : Bool) → takes n x ≡ t → both_use (cond s (cond t (Entries k) Others) Nobody) (users_from n (suc k) xs) ≡ Entries j → Entry k j (x ∷ xs)
-      by false u t q d = later d u
-      by true u false q d = absurd cc
-      by true u true q d = here u q (users_from n (suc k) xs) refl d
+      by : (s : Bool) → node_uses n x ≡ s → (t : Bool) → takes n x ≡ t → both_use (cond s (cond t (Entries k) Others) Nobody) (users_from n (suc k) xs) ≡ Entries j →
+          ((i : ℕ) → users_from n (suc k) xs ≡ Entries i → Entry (suc k) i xs) → Entry k j (x ∷ xs)
+      by false u t q d rest = later_entry k j x xs u (rest j d)
+      by true u false q d rest = absurd cc
+      by true u true q d rest = first_entry k j x xs u q rest (users_from n (suc k) xs) refl d
 
   module _ (k j : ℕ) (ws : List NodeTree) (entry : Entry k j ws) where
     pub only_entry : only_user n (nodes_behind ws no_nodes) ≡ Some entry.gamma
