@@ -37,7 +37,6 @@ const MOST_BLOCKS: u64 = 0x8000_0000_0000_0000;
 /// Calls a function with so many of the newest operands.
 pub(crate) fn call<'a>(
     machine: &mut Machine<'a>,
-    alloc: Global,
     program: Program<'a>,
     function: u32,
     count: usize,
@@ -54,7 +53,7 @@ pub(crate) fn call<'a>(
     let Some(f) = typed.functions.get(function as usize) else {
         return Err(Stop::Undefined);
     };
-    match frame_of(machine, alloc, program, function, f, count) {
+    match frame_of(machine, program, function, f, count) {
         Ok(active) => enter(machine, active, f),
         Err(stop) => Err(stop),
     }
@@ -63,7 +62,6 @@ pub(crate) fn call<'a>(
 // The frame of a call of this function. Its blocks are opened, and its arguments taken.
 fn frame_of<'a>(
     machine: &mut Machine<'a>,
-    alloc: Global,
     program: Program<'a>,
     function: u32,
     f: &'a TFunction,
@@ -78,14 +76,15 @@ fn frame_of<'a>(
     let Some(layout) = layouts.functions.get(function as usize) else {
         return Err(Stop::Undefined);
     };
-    let objects = machine.store.open(alloc, &layout.shapes)?;
+    let objects = machine.store.open(program.alloc, &layout.shapes)?;
     if objects.first >= MOST_BLOCKS {
         return Err(Stop::NoMemory);
     }
     let first = machine.operands.len().saturating_sub(count);
     let params = (f.params as usize).min(f.variables.len());
+    let slots = blank_slots(&mut machine.spare, program.alloc, params)?;
     let taken = take_arguments(
-        alloc,
+        slots,
         program,
         function,
         objects.first,
@@ -108,10 +107,22 @@ fn frame_of<'a>(
     }
 }
 
+// A list without slots, with room for so many: the spare one, where that has it.
+fn blank_slots(spare: &mut Vec<Slot>, alloc: Global, count: usize) -> Result<Vec<Slot>, Stop>
+    ensures { MatchResult result (λ slots. slots.items ≡ []) (λ s. s ≡ AnyStop.NoMemory) }
+{
+    if spare.capacity() < count {
+        return Ok(Vec::with_capacity(alloc, count)?);
+    }
+    let mut slots = replace(spare, Vec::new(alloc));
+    slots.truncate(0);
+    Ok(slots)
+}
+
 // The parameters in scope as a call begins, whose blocks are numbered from `first` on. Those that
 // are objects are stored.
 fn take_arguments<'a>(
-    alloc: Global,
+    mut slots: Vec<Slot>,
     program: Program<'a>,
     function: u32,
     first: u64,
@@ -129,7 +140,6 @@ fn take_arguments<'a>(
     ensures slots { IfOk result (λ slots. slots_of slots.items
         ≡ params_in_scope 0 params.now arguments.now) }
 {
-    let mut slots = Vec::with_capacity(alloc, params.len())?;
     let mut number = 0;
     for i in 0..params.len() {
         let v = argument_at(arguments, i);
@@ -197,7 +207,7 @@ pub(crate) fn end_call<'a>(machine: &mut Machine<'a>, program: Program<'a>) -> R
     };
     machine.store.close(machine.frame.objects);
     machine.frame = caller.frame;
-    machine.slots = caller.slots;
+    machine.spare = replace(&mut machine.slots, caller.slots);
     machine.flow = Flow::Normal;
     give(machine, Some(value))
 }

@@ -1,4 +1,4 @@
-//! Places, and expressions whose values are dropped.
+//! Expressions whose values are dropped.
 
 ghost use Rattle.std.specs.Prelude.{◌≡◌, ℕ};
 ghost use Rattle.c_typed.specs.Typed.{some_expr, ProgramTree};
@@ -9,43 +9,18 @@ ghost use Rattle.c_interp_def.specs.StmtTasks.{optional_tasks};
 ghost use Rattle.c_interp_layout.specs.Laid.{IsLaid};
 ghost use Rattle.c_interp.specs.Steps.{IsStep, tasks_do};
 
-use crate::evaluate::evaluate;
+use crate::evaluate::evaluate_unknown;
+use crate::expression::incremented;
 use crate::known::{known, known_address, known_written};
 use crate::machine::{Machine, Program};
-use crate::operands::{give_value, store};
 use crate::stop::Stop;
-use crate::variable::set_slot;
+use crate::variable::{set_slot, slot_read};
+use c_interp_answer::value_slot;
 use c_interp_def::{ExprTask, Task};
-use c_interp_value::used;
-use c_typed::{ExprForm, TExpr, TPlace};
+use c_interp_value::{access_width, used};
+use c_type::CType;
+use c_typed::{ExprForm, IncDec, TExpr, TPlace};
 use val_core::Value;
-
-/// A place, whose address becomes an operand.
-pub(crate) fn locate<'a>(
-    machine: &mut Machine<'a>,
-    program: Program<'a>,
-    q: &'a TPlace,
-) -> Result<(), Stop>
-    requires laid { IsLaid program.typed.now program.layouts.now }
-    requires normal { machine.old.flow ≡ Normal }
-    ensures { (n : ℕ) → IsStep program.entry.typed.now n result machine.old machine.new
-        (expr_task_run program.entry.typed.now n (task.locate q.now)) }
-{
-    match known_address(machine, program, q) {
-        Some(at) => give_value(machine, at),
-        None => find(machine, q),
-    }
-}
-
-// A place whose address is not known at once.
-fn find<'a>(machine: &mut Machine<'a>, q: &'a TPlace) -> Result<(), Stop>
-    requires { machine.old.flow ≡ Normal }
-    ensures { (p : ProgramTree) (n : ℕ)
-        → IsStep p n result machine.old machine.new (expr_task_run p n (task.locate q.now)) }
-{
-    c_interp_expand::locate(q, &mut machine.tasks)?;
-    Ok(())
-}
 
 /// An expression whose value is dropped.
 pub(crate) fn perform<'a>(
@@ -58,39 +33,136 @@ pub(crate) fn perform<'a>(
     ensures { (n : ℕ) → IsStep program.entry.typed.now n result machine.old machine.new
         (tasks_do program.entry.typed.now n (optional_tasks (some_expr e.now))) }
 {
-    match known_written(machine, program, e) {
-        Some(w) => {
-            set_slot(&mut machine.slots, w.slot, Value::Num(w.word));
-            Ok(())
-        }
-        None => perform_more(machine, program, e),
+    if performed(machine, program, e)? {
+        return Ok(());
     }
+    evaluate_and_drop(machine, program, e)
 }
 
-/// The same, where it does not assign a known number to a variable.
-pub(crate) fn perform_more<'a>(
+/// Whether an expression whose value is dropped assigns what is known at once; that is then done,
+/// and else nothing.
+pub(crate) fn performed<'a>(
     machine: &mut Machine<'a>,
     program: Program<'a>,
     e: &'a TExpr,
-) -> Result<(), Stop>
+) -> Result<bool, Stop>
     requires laid { IsLaid program.typed.now program.layouts.now }
     requires normal { machine.old.flow ≡ Normal }
-    ensures { (n : ℕ) → IsStep program.entry.typed.now n result machine.old machine.new
+    ensures { (n : ℕ) → IsPerformed program.entry.typed.now n result machine.old machine.new
         (tasks_do program.entry.typed.now n (optional_tasks (some_expr e.now))) }
 {
-    match &e.form {
-        ExprForm::Assign(p, a) => match known_address(machine, program, p) {
-            Some(at) => match known(machine, program, a) {
-                Some(v) => store(machine, &e.ty, at, used(v)),
-                None => evaluate_and_drop(machine, program, e),
-            },
-            None => evaluate_and_drop(machine, program, e),
-        },
-        _ => evaluate_and_drop(machine, program, e),
+    match known_written(machine, program, e) {
+        Some(w) => {
+            set_slot(&mut machine.slots, w.slot, Value::Num(w.word));
+            Ok(true)
+        }
+        None => performed_more(machine, program, e),
     }
 }
 
-fn evaluate_and_drop<'a>(
+// The same, where it does not assign a known number to a variable.
+fn performed_more<'a>(
+    machine: &mut Machine<'a>,
+    program: Program<'a>,
+    e: &'a TExpr,
+) -> Result<bool, Stop>
+    requires laid { IsLaid program.typed.now program.layouts.now }
+    requires normal { machine.old.flow ≡ Normal }
+    ensures { (n : ℕ) → IsPerformed program.entry.typed.now n result machine.old machine.new
+        (tasks_do program.entry.typed.now n (optional_tasks (some_expr e.now))) }
+{
+    match &e.form {
+        ExprForm::Assign(p, a) => assigned(machine, program, &e.ty, p, a),
+        ExprForm::IncDec(step, p) => stepped(machine, &e.ty, *step, p),
+        _ => Ok(false),
+    }
+}
+
+// An assignment.
+fn assigned<'a>(
+    machine: &mut Machine<'a>,
+    program: Program<'a>,
+    t: &CType,
+    p: &'a TPlace,
+    a: &'a TExpr,
+) -> Result<bool, Stop>
+    requires laid { IsLaid program.typed.now program.layouts.now }
+    requires normal { machine.old.flow ≡ Normal }
+    ensures { (n : ℕ) → IsPerformed program.entry.typed.now n result machine.old machine.new
+        (tasks_do program.entry.typed.now n (optional_tasks (some_expr (expr t.now (assign p.now a.now))))) }
+{
+    match value_slot(&machine.slots, p) {
+        Some(k) => match known(machine, program, a) {
+            Some(v) => {
+                let Some(w) = used(v) else {
+                    return Err(Stop::Undefined);
+                };
+                set_slot(&mut machine.slots, k, w);
+                Ok(true)
+            }
+            None => Ok(false),
+        },
+        None => stored(machine, program, t, p, a),
+    }
+}
+
+// The same to an object.
+fn stored<'a>(
+    machine: &mut Machine<'a>,
+    program: Program<'a>,
+    t: &CType,
+    p: &'a TPlace,
+    a: &'a TExpr,
+) -> Result<bool, Stop>
+    requires laid { IsLaid program.typed.now program.layouts.now }
+    requires normal { machine.old.flow ≡ Normal }
+    ensures { (n : ℕ) → IsPerformed program.entry.typed.now n result machine.old machine.new
+        (tasks_do program.entry.typed.now n (optional_tasks (some_expr (expr t.now (assign p.now a.now))))) }
+{
+    match known_address(machine, program, p) {
+        Some(at) => match known(machine, program, a) {
+            Some(v) => {
+                let Some(w) = used(v) else {
+                    return Err(Stop::Undefined);
+                };
+                if machine.store.store(access_width(t), at, w) {
+                    Ok(true)
+                } else {
+                    Err(Stop::Undefined)
+                }
+            }
+            None => Ok(false),
+        },
+        None => Ok(false),
+    }
+}
+
+// `++` or `--`.
+fn stepped<'a>(
+    machine: &mut Machine<'a>,
+    t: &CType,
+    step: IncDec,
+    p: &TPlace,
+) -> Result<bool, Stop>
+    requires { machine.old.flow ≡ Normal }
+    ensures { (p : ProgramTree) (n : ℕ) → IsPerformed p n result machine.old machine.new
+        (tasks_do p n (optional_tasks (some_expr (expr t.now (inc_dec step p.now))))) }
+{
+    let Some(k) = value_slot(&machine.slots, p) else {
+        return Ok(false);
+    };
+    let Some(old) = slot_read(&machine.slots, k) else {
+        return Err(Stop::Undefined);
+    };
+    let Some(w) = incremented(&machine.store, step, t, old) else {
+        return Err(Stop::Undefined);
+    };
+    set_slot(&mut machine.slots, k, w);
+    Ok(true)
+}
+
+/// An expression whose value is dropped and that is not performed at once.
+pub(crate) fn evaluate_and_drop<'a>(
     machine: &mut Machine<'a>,
     program: Program<'a>,
     e: &'a TExpr,
@@ -101,5 +173,5 @@ fn evaluate_and_drop<'a>(
         (tasks_do program.entry.typed.now n (optional_tasks (some_expr e.now))) }
 {
     machine.tasks.push(Task::OfExpr(ExprTask::Discard))?;
-    evaluate(machine, program, e)
+    evaluate_unknown(machine, program, e)
 }
