@@ -120,7 +120,7 @@ call_done p n f count u old mid new fn active flow depth there begins h m held =
 
 -- the machine with the caller of the newest call
 abbrev pub back_in : Machine → Active → Vec Active Global → Store → Machine
-back_in m caller few s = record { tasks = m.tasks; operands = m.operands; frame = caller.frame; slots = caller.slots; callers = few; flow = Normal; store = s }
+back_in m caller few s = record { tasks = m.tasks; operands = m.operands; frame = caller.frame; slots = caller.slots; callers = few; flow = Normal; store = s; status = m.status; spare = m.spare }
 
 pub end_call_done : (p : ProgramTree) (n : ℕ) (r : Result Unit Stop) (old new : Machine) (caller : Active) (few : Vec Active Global) (s : Store) (value : Value) →
     old.callers.items ≡ few.items ++ caller ∷ [] → value ≡ value_or_none (value_at_end (old.frame.function == p.main) (flow_of old.flow)) →
@@ -164,7 +164,7 @@ pub call_entered_step : (p : ProgramTree) (n f count : ℕ) (r : Result Unit Sto
     IsStep p n r old new (expr_task_run p n (call f count))
 call_entered_step p n f count (Ok u) old mid new fn active flow depth there begins h = call_done p n f count u old mid new fn active flow depth there begins h
 call_entered_step p n f count (Err stop.NoMemory) old mid new fn active flow depth there begins h = λ m held i. tt
-call_entered_step p n f count (Err (stop.Exit status)) old mid new fn active flow depth there begins h = absurd h
+call_entered_step p n f count (Err stop.Exit) old mid new fn active flow depth there begins h = absurd h
 call_entered_step p n f count (Err stop.Cut) old mid new fn active flow depth there begins h = absurd h
 call_entered_step p n f count (Err stop.Undefined) old mid new fn active flow depth there begins h = absurd h
 call_entered_step p n f count (Err stop.ReadFault) old mid new fn active flow depth there begins h = absurd h
@@ -174,7 +174,7 @@ pub call_not_begun : (p : ProgramTree) (n f count : ℕ) (s : Stop) (old mid new
     IsFrame p f count fn old mid (Err s) → IsStep p n (Err s) old new (expr_task_run p n (call f count))
 call_not_begun p n f count stop.Undefined old mid new fn depth there h = call_undefined p n f count (old.frame.depth - 1) old new fn depth there h
 call_not_begun p n f count stop.NoMemory old mid new fn depth there h = λ m held i. tt
-call_not_begun p n f count (stop.Exit status) old mid new fn depth there h = λ m held i. absurd (h m held)
+call_not_begun p n f count stop.Exit old mid new fn depth there h = λ m held i. absurd (h m held)
 call_not_begun p n f count stop.Cut old mid new fn depth there h = λ m held i. absurd (h m held)
 call_not_begun p n f count stop.ReadFault old mid new fn depth there h = λ m held i. absurd (h m held)
 call_not_begun p n f count stop.WriteFault old mid new fn depth there h = λ m held i. absurd (h m held)

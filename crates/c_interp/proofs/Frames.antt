@@ -51,7 +51,7 @@ args-read ops all count first same first_is =
 
 -- the machine once the arguments were taken
 abbrev pub taken_from : Machine → Vec Value Global → Store → Machine
-taken_from m ops s = record { tasks = m.tasks; operands = ops; frame = m.frame; slots = m.slots; callers = m.callers; flow = m.flow; store = s }
+taken_from m ops s = record { tasks = m.tasks; operands = ops; frame = m.frame; slots = m.slots; callers = m.callers; flow = m.flow; store = s; status = m.status; spare = m.spare }
 
 abbrev pub Opens : Machine → List Shape → Opened → Store → Type 0
 Opens old shapes o s =
@@ -82,7 +82,7 @@ module _ (p : ProgramTree) (f count : ℕ) (fn : FunctionTree) (old : Machine) (
       IsFrame p f count fn old new (Err r)
   begins_err X last new stop.Undefined h = begins_none h
   begins_err X last new stop.NoMemory h = tt
-  begins_err X last new (stop.Exit status) h = λ m held. h (o ∷ calls_in old) (m ++ opened (shapes_of shapes)) (opens (calls_in old) m held.store).1
+  begins_err X last new stop.Exit h = λ m held. h (o ∷ calls_in old) (m ++ opened (shapes_of shapes)) (opens (calls_in old) m held.store).1
   begins_err X last new stop.Cut h = λ m held. h (o ∷ calls_in old) (m ++ opened (shapes_of shapes)) (opens (calls_in old) m held.store).1
   begins_err X last new stop.ReadFault h = λ m held. h (o ∷ calls_in old) (m ++ opened (shapes_of shapes)) (opens (calls_in old) m held.store).1
   begins_err X last new stop.WriteFault h = λ m held. h (o ∷ calls_in old) (m ++ opened (shapes_of shapes)) (opens (calls_in old) m held.store).1

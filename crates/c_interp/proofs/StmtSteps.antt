@@ -84,13 +84,13 @@ global_step p n r old new k v is step =
     same_step p n r old new (expr_task_run p n (task.global_at k)) (give_run (Some v)) (λ m i held. ap (λ u. give_run (Some u) (config_of old m i)) (sym is)) step
 
 abbrev pub with_slots : Machine → Vec Slot Global → Machine
-with_slots m s = record { tasks = m.tasks; operands = m.operands; frame = m.frame; slots = s; callers = m.callers; flow = m.flow; store = m.store }
+with_slots m s = record { tasks = m.tasks; operands = m.operands; frame = m.frame; slots = s; callers = m.callers; flow = m.flow; store = m.store; status = m.status; spare = m.spare }
 
 -- the end of the program
-pub exit_step : (p : ProgramTree) (n : ℕ) (old new : Machine) (few : Vec Value Global) (v : Value) (w status : ℕ) → old.operands.items ≡ few.items ++ v ∷ [] → number v ≡ Some w → status ≡ w % 256 →
-    IsStep p n (Err (stop.Exit status)) old new (expr_task_run p n task.end_program)
-exit_step p n old new few v w status e is last m held i =
-    end-exit (expr_task_run p n task.end_program (config_of old m i)) status
+pub exit_step : (p : ProgramTree) (n : ℕ) (old new : Machine) (few : Vec Value Global) (v : Value) (w : ℕ) → old.operands.items ≡ few.items ++ v ∷ [] → number v ≡ Some w → new.status ≡ w % 256 →
+    IsStep p n (Err stop.Exit) old new (expr_task_run p n task.end_program)
+exit_step p n old new few v w e is last m held i =
+    end-exit (expr_task_run p n task.end_program (config_of old m i)) new.status
     (ap (λ vs. expr_task_run p n task.end_program (with_operands (config_of old m i) vs)) (newest-one few.items old.operands.items v e)
     ∙ on-number v (λ u. Exited [] (u % 256)) ∙ ap (λ o. on_defined o (λ u. Exited [] (u % 256))) is ∙ ap (Exited []) (sym last))
 
@@ -157,7 +157,7 @@ asked_false p n u old few v t next flow popped is =
 -- ---- jumps
 
 abbrev pub with_flow : Machine → Flow → Machine
-with_flow m f = record { tasks = m.tasks; operands = m.operands; frame = m.frame; slots = m.slots; callers = m.callers; flow = f; store = m.store }
+with_flow m f = record { tasks = m.tasks; operands = m.operands; frame = m.frame; slots = m.slots; callers = m.callers; flow = f; store = m.store; status = m.status; spare = m.spare }
 
 -- a jump takes another course
 pub flow_step : (p : ProgramTree) (n : ℕ) (u : Unit) (old : Machine) (f : Flow) (run : Configuration → Answer Reached) → ((x : Configuration) → run x ≡ reaches (flow_of f) x) → IsStep p n (Ok u) old (with_flow old f) run
@@ -302,7 +302,7 @@ characters_step p n (Err stop.Undefined) old s k o cs object flow is stores =
     ap (λ q. on_defined q (λ z. goes_on_at (config_of old m i) (state.with_memory (state_of (config_of old m i)) z)))
     (ap (λ a. characters_stored a o cs m) (sym is) ∙ stores (calls_in old) m held.store))
 characters_step p n (Err stop.NoMemory) old s k o cs object flow is stores = λ m held i. tt
-characters_step p n (Err (stop.Exit status)) old s k o cs object flow is stores = λ m held i. absurd (stores (calls_in old) m held.store)
+characters_step p n (Err stop.Exit) old s k o cs object flow is stores = λ m held i. absurd (stores (calls_in old) m held.store)
 characters_step p n (Err stop.Cut) old s k o cs object flow is stores = λ m held i. absurd (stores (calls_in old) m held.store)
 characters_step p n (Err stop.ReadFault) old s k o cs object flow is stores = λ m held i. absurd (stores (calls_in old) m held.store)
 characters_step p n (Err stop.WriteFault) old s k o cs object flow is stores = λ m held i. absurd (stores (calls_in old) m held.store)

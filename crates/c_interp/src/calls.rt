@@ -1,6 +1,6 @@
 //! Calls that begin and end (ISO/IEC 9899:2011, 6.5.2.2, 6.9.1).
 
-ghost use Rattle.std.specs.Prelude.{◌≡◌, ℕ, ◌<◌, ◌^◌, Some, List, IfOk, length, slice_get, slice_index_or};
+ghost use Rattle.std.specs.Prelude.{◌≡◌, ℕ, ◌<◌, ◌^◌, [], Some, List, IfOk, MatchResult, length, slice_get, slice_index_or};
 ghost use Rattle.val_core.specs.declared.values.Value.TheVariants.{Bad};
 ghost use Rattle.val_core.specs.Memory.{Memory};
 ghost use Rattle.val_core.specs.Objects.{address_in};
@@ -17,6 +17,7 @@ ghost use Rattle.c_interp_def.specs.StmtTasks.{handler_run};
 ghost use Rattle.c_interp_layout.specs.Laid.{IsLaid};
 ghost use Rattle.c_interp.specs.Steps.{IsStep, IsStored};
 ghost use Rattle.c_interp.specs.Calls.{IsFrame, IsEntered};
+ghost use Rattle.c_interp.specs.declared.stop.Stop.TheVariants as AnyStop;
 
 use crate::frame::{Active, Frame};
 use crate::machine::{Machine, Program};
@@ -133,6 +134,7 @@ fn take_arguments<'a>(
     requires laid { IsLaid program.typed.now program.layouts.now }
     requires fit { first < 2 ^ 63 }
     requires few { length params.now < 2 ^ 32 }
+    requires blank { slots.entry.items ≡ [] }
     ensures stored { (calls : List Opened) (m : Memory) → Holds store.old calls m →
         IsStored calls (params_stored (address_in first
         (object_sizes program.entry.typed.now (variables_of program.entry.typed.now function)))

@@ -1,9 +1,9 @@
 //! Expressions: what is known at once is given, and what is not becomes tasks.
 
-ghost use Rattle.std.specs.Prelude.{◌≡◌, ℕ, Some, List};
+ghost use Rattle.std.specs.Prelude.{◌≡◌, ◌∷◌, [], ℕ, Some, List};
 ghost use Rattle.val_core.specs.Answers.{on_defined};
 ghost use Rattle.c_type.specs.Trees.{TypeTree};
-ghost use Rattle.c_typed.specs.Typed.{expr, binary, conditional, call, exprs_of, ProgramTree};
+ghost use Rattle.c_typed.specs.Typed.{expr, read, unary, binary, logical_and, logical_or, conditional, assign, inc_dec, call, exprs_of, ProgramTree};
 ghost use Rattle.c_typed.specs.WellTyped.{type_of};
 ghost use Rattle.c_mean.specs.State.{State, gives};
 ghost use Rattle.c_mean.specs.Expressions.{binary_done};
@@ -12,11 +12,12 @@ ghost use Rattle.c_interp_expand.specs.TaskViews.{task_of};
 ghost use Rattle.c_interp_def.specs.StmtTasks.{of_expr};
 ghost use Rattle.c_interp_def.specs.declared.task.Flow.TheVariants.{Normal};
 ghost use Rattle.c_interp_def.specs.ExprTasks as task;
-ghost use Rattle.c_interp_def.specs.ExprTasks.{expr_task_run};
+ghost use Rattle.c_interp_def.specs.ExprTasks.{unary_tasks, expr_task_run};
+ghost use Rattle.c_interp_def.specs.Laws.{of_exprs};
 ghost use Rattle.c_interp_layout.specs.Laid.{IsLaid};
 ghost use Rattle.c_interp_answer.specs.Answered.{IsValue};
 ghost use Rattle.c_interp.specs.Known.{Knows};
-ghost use Rattle.c_interp.specs.Steps.{IsStep, passed_run, passed_then};
+ghost use Rattle.c_interp.specs.Steps.{IsStep, tasks_do, tested_run, passed_run, passed_then};
 
 use crate::expression::{loaded, step_at};
 use crate::known::{known, known_address, known_truth, known_written};

@@ -37,6 +37,7 @@ pub(crate) fn known<'a>(machine: &Machine<'a>, program: Program<'a>, e: &TExpr) 
 }
 
 /// Whether an expression is true.
+#[inline(always)]
 pub(crate) fn known_truth<'a>(
     machine: &Machine<'a>,
     program: Program<'a>,

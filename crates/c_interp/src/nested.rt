@@ -2,7 +2,7 @@
 
 ghost use Rattle.std.specs.Prelude.{◌≡◌, ◌∷◌, [], ℕ};
 ghost use Rattle.val_core.specs.Answers.{then_on};
-ghost use Rattle.c_typed.specs.Typed.{OptionalExpr, some_expr, if_else};
+ghost use Rattle.c_typed.specs.Typed.{ProgramTree, OptionalExpr, some_expr, if_else};
 ghost use Rattle.c_typed.specs.StmtViews.{items_of, initial_of};
 ghost use Rattle.c_interp_def.specs.declared.task.Flow.TheVariants.{Normal};
 ghost use Rattle.c_interp_def.specs.StmtTasks as stmt;
@@ -11,7 +11,7 @@ ghost use Rattle.c_interp_def.specs.ExprTasks as task;
 ghost use Rattle.c_interp_def.specs.ExprTasks.{expr_task_run};
 ghost use Rattle.c_interp_layout.specs.Laid.{IsLaid};
 ghost use Rattle.c_interp.specs.Known.{while_loop};
-ghost use Rattle.c_interp.specs.Steps.{IsStep, tasks_do, turns_do, declared_do, begun_do};
+ghost use Rattle.c_interp.specs.Steps.{IsStep, tasks_do, turns_do, declared_do, is_loop};
 
 use crate::begin::is_value;
 use crate::evaluate::evaluate_unknown;
@@ -110,9 +110,8 @@ fn run_to<'a>(
         StmtForm::IfElse(e, then, otherwise) => {
             choose_to(machine, program, a, e, then, otherwise, depth - 1)
         }
-        StmtForm::Loop { .. } | StmtForm::DoWhile { .. } => {
-            loop_to(machine, program, a, depth - 1)
-        }
+        StmtForm::Loop { .. } => loop_to(machine, program, a, depth - 1),
+        StmtForm::DoWhile { .. } => loop_to(machine, program, a, depth - 1),
         StmtForm::ReturnValue(e) => return_value(machine, program, e),
         StmtForm::Break => jump(machine, Flow::Broke),
         StmtForm::Continue => jump(machine, Flow::Continued),
@@ -203,10 +202,13 @@ fn item_to<'a>(
     }
     match first {
         Item::Statement(a) => first_to(machine, program, a, rest, depth - 1),
-        Item::Variable(d) => match is_value(program, machine.frame.function, d.variable) {
-            true => declare_to(machine, program, &d.initial, rest, depth - 1),
-            false => expand_items(machine, program, items),
-        },
+        Item::Variable(d) => {
+            if is_value(program, machine.frame.function, d.variable) {
+                declare_to(machine, program, &d.initial, rest, depth - 1)
+            } else {
+                expand_items(machine, program, items)
+            }
+        }
     }
 }
 
@@ -280,7 +282,8 @@ fn declare_to<'a>(
     machine.slots.push(Slot::Holds(Value::Bad))?;
     match initial {
         Initial::Value(e) => begin_to(machine, program, e, rest, depth),
-        _ => items_to(machine, program, rest, depth),
+        Initial::Nothing => items_to(machine, program, rest, depth),
+        Initial::Elements(_) => items_to(machine, program, rest, depth),
     }
 }
 
@@ -296,7 +299,9 @@ fn begin_to<'a>(
     requires laid { IsLaid program.typed.now program.layouts.now }
     requires normal { machine.old.flow ≡ Normal }
     ensures { IsStep program.entry.typed.now program.entry.bound result machine.old machine.new
-        (begun_do program.entry.typed.now program.entry.bound e.now (items_of rest.now)) }
+        (tasks_do program.entry.typed.now program.entry.bound
+        (of_stmt (stmt.run_items (items_of rest.now)) ∷ of_stmt stmt.begin_slot
+        ∷ of_expr (task.evaluate e.now) ∷ [])) }
 {
     match known(machine, program, e) {
         Some(v) => {
@@ -321,7 +326,8 @@ fn begin_later<'a>(
     requires laid { IsLaid program.typed.now program.layouts.now }
     requires normal { machine.old.flow ≡ Normal }
     ensures { (n : ℕ) → IsStep program.entry.typed.now n result machine.old machine.new
-        (begun_do program.entry.typed.now n e.now (items_of rest.now)) }
+        (tasks_do program.entry.typed.now n (of_stmt (stmt.run_items (items_of rest.now))
+        ∷ of_stmt stmt.begin_slot ∷ of_expr (task.evaluate e.now) ∷ [])) }
 {
     machine.tasks.push(Task::OfStmt(StmtTask::RunItems(rest)))?;
     machine.tasks.push(Task::OfStmt(StmtTask::BeginSlot))?;
@@ -370,7 +376,7 @@ fn turns_to<'a>(
             None => turn_to(machine, program, turns, a, body, depth),
         },
         StmtForm::DoWhile { body, .. } => turn_to(machine, program, turns, a, body, depth),
-        _ => Err(Stop::Undefined),
+        _ => put_turns(machine, turns, a),
     }
 }
 
@@ -421,6 +427,30 @@ fn turn_to<'a>(
         .tasks
         .push(Task::Handler(Handler::Again(turns - 1, a)))?;
     run_to(machine, program, body, depth)
+}
+
+/// Whether a statement is a loop.
+pub(crate) fn is_loop(a: &TStmt) -> bool
+    ensures { result ≡ is_loop a.now }
+{
+    matches!(&a.form, StmtForm::Loop { .. } | StmtForm::DoWhile { .. })
+}
+
+// A loop becomes tasks.
+fn put_turns<'a>(machine: &mut Machine<'a>, turns: u64, a: &'a TStmt) -> Result<(), Stop>
+    requires { machine.old.flow ≡ Normal }
+    ensures { (p : ProgramTree) (n : ℕ)
+        → IsStep p n result machine.old machine.new
+        (stmt_task_run p n (stmt.run_turns turns a.now)) }
+{
+    if !is_loop(a) {
+        return Err(Stop::Undefined);
+    }
+    if c_interp_expand::run_turns(turns, a, &mut machine.tasks)? {
+        Ok(())
+    } else {
+        Err(Stop::Cut)
+    }
 }
 
 /// The condition of a loop, which is evaluated, and its turns where that is true.

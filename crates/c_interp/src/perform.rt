@@ -1,13 +1,11 @@
 //! Expressions whose values are dropped.
 
 ghost use Rattle.std.specs.Prelude.{◌≡◌, ℕ};
-ghost use Rattle.c_typed.specs.Typed.{some_expr, ProgramTree};
+ghost use Rattle.c_typed.specs.Typed.{expr, assign, inc_dec, some_expr, ProgramTree};
 ghost use Rattle.c_interp_def.specs.declared.task.Flow.TheVariants.{Normal};
-ghost use Rattle.c_interp_def.specs.ExprTasks as task;
-ghost use Rattle.c_interp_def.specs.ExprTasks.{expr_task_run};
 ghost use Rattle.c_interp_def.specs.StmtTasks.{optional_tasks};
 ghost use Rattle.c_interp_layout.specs.Laid.{IsLaid};
-ghost use Rattle.c_interp.specs.Steps.{IsStep, tasks_do};
+ghost use Rattle.c_interp.specs.Steps.{IsStep, IsPerformed, tasks_do};
 
 use crate::evaluate::evaluate_unknown;
 use crate::expression::incremented;
@@ -41,6 +39,7 @@ pub(crate) fn perform<'a>(
 
 /// Whether an expression whose value is dropped assigns what is known at once; that is then done,
 /// and else nothing.
+#[inline(always)]
 pub(crate) fn performed<'a>(
     machine: &mut Machine<'a>,
     program: Program<'a>,
@@ -61,6 +60,7 @@ pub(crate) fn performed<'a>(
 }
 
 // The same, where it does not assign a known number to a variable.
+#[inline(never)]
 fn performed_more<'a>(
     machine: &mut Machine<'a>,
     program: Program<'a>,
@@ -145,8 +145,8 @@ fn stepped<'a>(
     p: &TPlace,
 ) -> Result<bool, Stop>
     requires { machine.old.flow ≡ Normal }
-    ensures { (p : ProgramTree) (n : ℕ) → IsPerformed p n result machine.old machine.new
-        (tasks_do p n (optional_tasks (some_expr (expr t.now (inc_dec step p.now))))) }
+    ensures { (q : ProgramTree) (n : ℕ) → IsPerformed q n result machine.old machine.new
+        (tasks_do q n (optional_tasks (some_expr (expr t.now (inc_dec step p.now))))) }
 {
     let Some(k) = value_slot(&machine.slots, p) else {
         return Ok(false);

@@ -9,10 +9,10 @@ ghost use Rattle.c_interp_def.specs.ExprTasks as task;
 ghost use Rattle.c_interp_def.specs.StmtTasks.{of_expr, of_stmt, stmt_task_run, handler_run, turn_tasks, again_tasks, optional_tasks};
 ghost use Rattle.c_interp_layout.specs.Laid.{IsLaid};
 ghost use Rattle.c_interp.specs.Known.{while_loop};
-ghost use Rattle.c_interp.specs.Steps.{IsStep, tasks_do, turns_do, asked_do, is_loop};
+ghost use Rattle.c_interp.specs.Steps.{IsStep, tasks_do, turns_do, asked_do};
 
 use crate::machine::{Machine, Program};
-use crate::nested::{ask_again, run_turns, turn};
+use crate::nested::{ask_again, is_loop, run_turns, turn};
 use crate::perform::{evaluate_and_drop, performed};
 use crate::push::put;
 use crate::stop::Stop;
@@ -20,12 +20,6 @@ use c_interp_def::{Flow, Stage, StmtTask, Task};
 use c_interp_value::truth;
 use c_type::CType;
 use c_typed::{StmtForm, TExpr, TStmt};
-
-fn is_loop(a: &TStmt) -> bool
-    ensures { result ≡ is_loop a.now }
-{
-    matches!(&a.form, StmtForm::Loop { .. } | StmtForm::DoWhile { .. })
-}
 
 /// A loop with its condition, of which so many turns are left.
 pub(crate) fn turn_if<'a>(
@@ -159,8 +153,18 @@ fn go_on<'a>(
             None => run_turns(machine, program, turns, a),
         },
         StmtForm::DoWhile { condition, .. } => ask_again(machine, program, turns, a, condition),
-        _ => Ok(()),
+        _ => put_again(machine, turns, a),
     }
+}
+
+// A loop that goes on becomes tasks.
+fn put_again<'a>(machine: &mut Machine<'a>, turns: u64, a: &'a TStmt) -> Result<(), Stop>
+    requires { machine.old.flow ≡ Normal }
+    ensures { (p : ProgramTree) (n : ℕ)
+        → IsStep p n result machine.old machine.new (tasks_do p n (again_tasks turns a.now)) }
+{
+    c_interp_expand::again(turns, a, &mut machine.tasks)?;
+    Ok(())
 }
 
 // The step of a loop, and its turns.

@@ -16,4 +16,4 @@ returns-in_default-number c = λ p n. no_operand p n c.args.machine.now c.args.m
     (sym c.in_default-number.ensures) (λ x vs. on-number c.in-Some.v (λ w. Exited [] (w % 256)))
 
 pub returns : goal.returns
-returns c = λ p n. exit_step p n c.args.machine.now c.args.machine.now c.pop.new.self c.in-Some.v c.in-Some-number.w _ c.in-Some.ensures.items (sym c.in-Some-number.ensures) refl
+returns c = λ p n. exit_step p n c.args.machine.now _ c.pop.new.self c.in-Some.v c.in-Some-number.w c.in-Some.ensures.items (sym c.in-Some-number.ensures) refl

@@ -6,7 +6,7 @@ use Rattle.c_interp_expand.specs.TaskViews.{tasks_of}
 use Rattle.c_interp.specs.Machines.{config_of}
 use Rattle.c_interp.proofs.Steps.{undefined_step}
 use Rattle.c_interp.proofs.Statements.{loops, no-turns, turn_put, turn_cut}
-use Rattle.c_interp.proofs.turns.put_turns.Goals as goal
+use Rattle.c_interp.proofs.nested.put_turns.Goals as goal
 
 pub returns-then-not-is_loop : goal.returns-then-not-is_loop
 returns-then-not-is_loop c = λ p n. undefined_step p n c.args.machine.now c.args.machine.now (stmt_task_run p n (stmt.run_turns c.args.turns c.args.a.now))
