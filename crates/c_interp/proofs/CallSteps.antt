@@ -120,7 +120,7 @@ call_done p n f count u old mid new fn active flow depth there begins h m held =
 
 -- the machine with the caller of the newest call
 abbrev pub back_in : Machine → Active → Vec Active Global → Store → Machine
-back_in m caller few s = record { tasks = m.tasks; operands = m.operands; frame = caller.frame; slots = caller.slots; callers = few; flow = Normal; store = s; status = m.status; spare = m.spare }
+back_in m caller few s = record { tasks = m.tasks; operands = m.operands; frame = caller.frame; slots = caller.slots; callers = few; flow = Normal; store = s; status = m.status; spare = m.slots }
 
 pub end_call_done : (p : ProgramTree) (n : ℕ) (r : Result Unit Stop) (old new : Machine) (caller : Active) (few : Vec Active Global) (s : Store) (value : Value) →
     old.callers.items ≡ few.items ++ caller ∷ [] → value ≡ value_or_none (value_at_end (old.frame.function == p.main) (flow_of old.flow)) →

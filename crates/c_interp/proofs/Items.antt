@@ -124,6 +124,10 @@ declared_step p n r old new many slots count i is counted pushed grown step =
     ))
     step))
 
+-- what it begins with is this
+pub initial_step : (p : ProgramTree) (n : ℕ) (r : Result Unit Stop) (old new : Machine) (i j : InitialTree) (is : ItemTrees) → i ≡ j → IsStep p n r old new (declared_do p n j is) → IsStep p n r old new (declared_do p n i is)
+initial_step p n r old new i j is e step = same_step p n r old new (declared_do p n i is) (declared_do p n j is) (λ m input held. ap (λ q. declared_do p n q is (config_of old m input)) e) step
+
 -- ---- it begins with a value
 
 used-begins : (v : Value) (x : Configuration) → used v (λ w. goes_on_at x (newest_written (state_of x) w)) ≡ on_defined (used_value v) (λ w. goes_on_at x (newest_written (state_of x) w))

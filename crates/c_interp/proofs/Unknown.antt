@@ -9,7 +9,7 @@ use Rattle.c_type.specs.Trees.{TypeTree}
 use Rattle.c_typed.specs.declared.operator.UnaryOp.{UnaryOp}
 use Rattle.c_typed.specs.declared.operator.IncDec.{IncDec}
 use Rattle.c_typed.specs.Typed as tree
-use Rattle.c_typed.specs.Typed.{ExprTree, expr, ExprTrees, PlaceTree, place, ProgramTree}
+use Rattle.c_typed.specs.Typed.{ExprTree, expr, ExprTrees, PlaceTree, place, PlaceFormTree, ProgramTree}
 use Rattle.c_typed.specs.WellTyped.{type_of}
 use Rattle.c_typed.specs.Objects.{access_width}
 use Rattle.c_mean.specs.State.{Slot, holds, truth, gives}
@@ -37,6 +37,15 @@ use Rattle.c_interp.proofs.Steps.{calls_in, with_ops, newest-one, moved, same_st
 use Rattle.c_interp.proofs.StmtSteps.{with_slots}
 use Rattle.c_interp.proofs.Operators.{tested, slot-gives, read-gives}
 use Rattle.c_interp.proofs.Performed.{slot-is}
+
+abbrev pub type_in : PlaceTree → TypeTree
+type_in (place t f) = t
+
+abbrev pub place_form_in : PlaceTree → PlaceFormTree
+place_form_in (place t f) = f
+
+pub place-whole : (q : PlaceTree) (f : PlaceFormTree) → place_form_in q ≡ f → q ≡ place (type_in q) f
+place-whole (place t g) f e = ap (place t) e
 
 decided : {A : Type 0} (t : TypeTree) (v : Value) (d : Bool) (a b : Answer A) → truth t v ≡ Some d → branched t v a b ≡ (if d then a else b)
 decided t v d a b h = ap (λ o. on_defined o (λ x. if x then a else b)) h

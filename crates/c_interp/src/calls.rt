@@ -1,6 +1,6 @@
 //! Calls that begin and end (ISO/IEC 9899:2011, 6.5.2.2, 6.9.1).
 
-ghost use Rattle.std.specs.Prelude.{◌≡◌, ℕ, ◌<◌, ◌^◌, [], Some, List, IfOk, MatchResult, length, slice_get, slice_index_or};
+ghost use Rattle.std.specs.Prelude.{◌≡◌, ℕ, ◌<◌, ◌^◌, [], Some, List, IfOk, length, slice_get, slice_index_or};
 ghost use Rattle.val_core.specs.declared.values.Value.TheVariants.{Bad};
 ghost use Rattle.val_core.specs.Memory.{Memory};
 ghost use Rattle.val_core.specs.Objects.{address_in};
@@ -17,7 +17,6 @@ ghost use Rattle.c_interp_def.specs.StmtTasks.{handler_run};
 ghost use Rattle.c_interp_layout.specs.Laid.{IsLaid};
 ghost use Rattle.c_interp.specs.Steps.{IsStep, IsStored};
 ghost use Rattle.c_interp.specs.Calls.{IsFrame, IsEntered};
-ghost use Rattle.c_interp.specs.declared.stop.Stop.TheVariants as AnyStop;
 
 use crate::frame::{Active, Frame};
 use crate::machine::{Machine, Program};
@@ -28,6 +27,7 @@ use c_interp_def::{Flow, Handler, Slot, StmtTask, Task};
 use c_interp_store::Store;
 use c_interp_value::access_width;
 use c_typed::{TFunction, Variable};
+use no_memory::NoMemory;
 use std::alloc::Global;
 use std::mem::replace;
 use val_core::Value;
@@ -109,8 +109,8 @@ fn frame_of<'a>(
 }
 
 // A list without slots, with room for so many: the spare one, where that has it.
-fn blank_slots(spare: &mut Vec<Slot>, alloc: Global, count: usize) -> Result<Vec<Slot>, Stop>
-    ensures { MatchResult result (λ slots. slots.items ≡ []) (λ s. s ≡ AnyStop.NoMemory) }
+fn blank_slots(spare: &mut Vec<Slot>, alloc: Global, count: usize) -> Result<Vec<Slot>, NoMemory>
+    ensures { IfOk result (λ slots. slots.items ≡ []) }
 {
     if spare.capacity() < count {
         return Ok(Vec::with_capacity(alloc, count)?);
