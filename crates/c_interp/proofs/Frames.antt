@@ -14,6 +14,7 @@ use Rattle.c_interp_store.specs.declared.shape.Shape.{Shape}
 use Rattle.c_interp_store.specs.declared.store.Store.{Store}
 use Rattle.c_interp_store.specs.Blocks.{shape_of, shapes_of}
 use Rattle.c_interp_store.specs.Holding.{Opened, Holds}
+use Rattle.c_interp_def.specs.declared.task.Slot.{Slot as CodeSlot}
 use Rattle.c_interp_def.specs.Configurations as def
 use Rattle.c_interp_def.specs.Configurations.{variables_in, variables_of, object_sizes}
 use Rattle.c_interp_def.specs.ExprTasks.{newest}

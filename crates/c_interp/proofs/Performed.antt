@@ -62,6 +62,11 @@ pub not_performed : (p : ProgramTree) (n : ℕ) (d : Bool) (r : Result Unit Stop
 not_performed p n true r old mid new run run' e h step = absurd (false≢true (sym e))
 not_performed p n false r old mid new run run' e h step = subst (λ (z : Machine). IsStep p n r z new run') h step
 
+-- no jump is on its way
+pub performed_flow : (p : ProgramTree) (n : ℕ) (d : Bool) (old new : Machine) (run : Configuration → Answer Reached) → IsPerformed p n (Ok d) old new run → old.flow ≡ Normal → new.flow ≡ Normal
+performed_flow p n true old new run h flow = h.flow
+performed_flow p n false old new run h flow = ap (λ (m : Machine). m.flow) h ∙ flow
+
 -- ---- a variable that holds a value
 
 slot-if-is : (k : ℕ) (o : Option Slot) → slot_if k o ≡ holds_value k o

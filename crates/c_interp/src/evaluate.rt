@@ -8,25 +8,24 @@ ghost use Rattle.c_typed.specs.WellTyped.{type_of};
 ghost use Rattle.c_mean.specs.State.{State, gives};
 ghost use Rattle.c_mean.specs.Expressions.{binary_done};
 ghost use Rattle.c_interp_store.specs.Holding.{Opened, Holds};
-ghost use Rattle.c_interp_expand.specs.TaskViews.{task_of};
+ghost use Rattle.c_interp_expand.specs.TaskViews.{task_of, slots_of};
 ghost use Rattle.c_interp_def.specs.StmtTasks.{of_expr};
 ghost use Rattle.c_interp_def.specs.declared.task.Flow.TheVariants.{Normal};
 ghost use Rattle.c_interp_def.specs.ExprTasks as task;
 ghost use Rattle.c_interp_def.specs.ExprTasks.{unary_tasks, expr_task_run};
 ghost use Rattle.c_interp_def.specs.Laws.{of_exprs};
 ghost use Rattle.c_interp_layout.specs.Laid.{IsLaid};
-ghost use Rattle.c_interp_answer.specs.Answered.{IsValue};
+ghost use Rattle.c_interp_answer.specs.Answered.{IsValue, IsAddress, place_slot};
 ghost use Rattle.c_interp.specs.Known.{Knows};
 ghost use Rattle.c_interp.specs.Steps.{IsStep, tasks_do, tested_run, passed_run, passed_then};
 
 use crate::expression::{loaded, step_at};
-use crate::known::{known, known_address, known_truth, known_written};
+use crate::known::{known, known_address, known_truth, known_written, slot_of, slot_value};
 use crate::machine::{Machine, Program};
 use crate::operands::{give, give_value};
 use crate::push::{put, put3};
 use crate::stop::Stop;
-use crate::variable::{set_slot, slot_read, step_slot};
-use c_interp_answer::value_slot;
+use crate::variable::{set_slot, step_slot};
 use c_interp_def::{ExprTask, Task};
 use c_interp_store::Store;
 use c_interp_value::{binary, used};
@@ -574,7 +573,7 @@ fn read_to<'a>(
     ensures { (n : ℕ) → IsStep program.entry.typed.now n result machine.old machine.new
         (expr_task_run program.entry.typed.now n (task.evaluate e.now)) }
 {
-    match value_slot(&machine.slots, p) {
+    match slot_of(machine, p) {
         Some(_) => expand(machine, e),
         None => {
             machine.tasks.push(Task::OfExpr(ExprTask::LoadFrom(&e.ty)))?;
@@ -599,7 +598,7 @@ fn assign_to<'a>(
         (expr_task_run program.entry.typed.now n
         (task.evaluate (expr t.now (assign p.now a.now)))) }
 {
-    match value_slot(&machine.slots, p) {
+    match slot_of(machine, p) {
         Some(k) => {
             machine
                 .tasks
@@ -676,16 +675,31 @@ fn increment_more<'a>(
     ensures { (n : ℕ) → IsStep program.entry.typed.now n result machine.old machine.new
         (expr_task_run program.entry.typed.now n (task.evaluate e.now)) }
 {
-    match value_slot(&machine.slots, p) {
-        Some(k) => {
-            let Some(old) = slot_read(&machine.slots, k) else {
-                return Err(Stop::Undefined);
-            };
-            machine.operands.push(old)?;
-            step_slot(machine, k, step, &e.ty)
-        }
+    match slot_of(machine, p) {
+        Some(k) => increment_slot(machine, e, step, p, k),
         None => increment_at(machine, program, e, step, p),
     }
+}
+
+// The same of the variable at a slot.
+fn increment_slot<'a>(
+    machine: &mut Machine<'a>,
+    e: &'a TExpr,
+    step: IncDec,
+    p: &'a TPlace,
+    k: u32,
+) -> Result<(), Stop>
+    requires normal { machine.old.flow ≡ Normal }
+    requires is { e.now ≡ expr (type_of e.now) (inc_dec step p.now) }
+    requires at { Some k ≡ place_slot (slots_of machine.old.slots.items) p.now }
+    ensures { (q : ProgramTree) (n : ℕ) → IsStep q n result machine.old machine.new
+        (expr_task_run q n (task.evaluate e.now)) }
+{
+    let Some(old) = slot_value(machine, k) else {
+        return Err(Stop::Undefined);
+    };
+    machine.operands.push(old)?;
+    step_slot(machine, k, step, &e.ty)
 }
 
 // The same of an object.
@@ -703,14 +717,7 @@ fn increment_at<'a>(
         ∷ of_expr (task.load_at (type_of e.now)) ∷ of_expr (task.locate p.now) ∷ [])) }
 {
     match known_address(machine, program, p) {
-        Some(at) => {
-            let Some(old) = loaded(&machine.store, &e.ty, at) else {
-                return Err(Stop::Undefined);
-            };
-            machine.operands.push(at)?;
-            machine.operands.push(old)?;
-            step_at(machine, step, &e.ty)
-        }
+        Some(at) => increment_known(machine, program, at, e, step, p),
         None => put3(
             machine,
             Task::OfExpr(ExprTask::StepAt(step, &e.ty)),
@@ -718,4 +725,29 @@ fn increment_at<'a>(
             Task::OfExpr(ExprTask::Locate(p)),
         ),
     }
+}
+
+// The same, at this address.
+fn increment_known<'a>(
+    machine: &mut Machine<'a>,
+    program: Program<'a>,
+    at: Value,
+    e: &'a TExpr,
+    step: IncDec,
+    p: &'a TPlace,
+) -> Result<(), Stop>
+    requires laid { IsLaid program.typed.now program.layouts.now }
+    requires normal { machine.old.flow ≡ Normal }
+    requires known { (n : ℕ) → Knows program.typed.now n machine.old
+        (λ c s. IsAddress c p.now s (Some at)) }
+    ensures { (n : ℕ) → IsStep program.entry.typed.now n result machine.old machine.new
+        (tasks_do program.entry.typed.now n (of_expr (task.step_at step (type_of e.now))
+        ∷ of_expr (task.load_at (type_of e.now)) ∷ of_expr (task.locate p.now) ∷ [])) }
+{
+    let Some(old) = loaded(&machine.store, &e.ty, at) else {
+        return Err(Stop::Undefined);
+    };
+    machine.operands.push(at)?;
+    machine.operands.push(old)?;
+    step_at(machine, step, &e.ty)
 }

@@ -1,6 +1,6 @@
 //! Statements that are begun at once (ISO/IEC 9899:2011, 6.8), with those that stand in them.
 
-ghost use Rattle.std.specs.Prelude.{◌≡◌, ◌∷◌, [], ℕ};
+ghost use Rattle.std.specs.Prelude.{◌≡◌, ◌∷◌, [], ℕ, Some};
 ghost use Rattle.val_core.specs.Answers.{then_on};
 ghost use Rattle.c_typed.specs.Typed.{ProgramTree, OptionalExpr, some_expr, if_else};
 ghost use Rattle.c_typed.specs.StmtViews.{items_of, initial_of};
@@ -10,7 +10,8 @@ ghost use Rattle.c_interp_def.specs.StmtTasks.{handler, of_expr, of_stmt, option
 ghost use Rattle.c_interp_def.specs.ExprTasks as task;
 ghost use Rattle.c_interp_def.specs.ExprTasks.{expr_task_run};
 ghost use Rattle.c_interp_layout.specs.Laid.{IsLaid};
-ghost use Rattle.c_interp.specs.Known.{while_loop};
+ghost use Rattle.c_interp_answer.specs.Answered.{IsValue};
+ghost use Rattle.c_interp.specs.Known.{Knows, while_loop};
 ghost use Rattle.c_interp.specs.Steps.{IsStep, tasks_do, turns_do, declared_do, is_loop};
 
 use crate::begin::is_value;
@@ -304,16 +305,36 @@ fn begin_to<'a>(
         ∷ of_expr (task.evaluate e.now) ∷ [])) }
 {
     match known(machine, program, e) {
-        Some(v) => {
-            let Some(w) = used(v) else {
-                return Err(Stop::Undefined);
-            };
-            machine.slots.pop();
-            machine.slots.push(Slot::Holds(w))?;
-            items_to(machine, program, rest, depth)
-        }
+        Some(v) => begin_known(machine, program, v, e, rest, depth),
         None => begin_later(machine, program, e, rest),
     }
+}
+
+// The same, where the expression gives this value.
+#[cycle(run)]
+fn begin_known<'a>(
+    machine: &mut Machine<'a>,
+    program: Program<'a>,
+    v: Value,
+    e: &TExpr,
+    rest: &'a [Item],
+    depth: u32,
+) -> Result<(), Stop>
+    requires laid { IsLaid program.typed.now program.layouts.now }
+    requires normal { machine.old.flow ≡ Normal }
+    requires known { (n : ℕ) → Knows program.typed.now n machine.old
+        (λ c s. IsValue c e.now s (Some v)) }
+    ensures { IsStep program.entry.typed.now program.entry.bound result machine.old machine.new
+        (tasks_do program.entry.typed.now program.entry.bound
+        (of_stmt (stmt.run_items (items_of rest.now)) ∷ of_stmt stmt.begin_slot
+        ∷ of_expr (task.evaluate e.now) ∷ [])) }
+{
+    let Some(w) = used(v) else {
+        return Err(Stop::Undefined);
+    };
+    machine.slots.pop();
+    machine.slots.push(Slot::Holds(w))?;
+    items_to(machine, program, rest, depth)
 }
 
 // The same, where the expression is evaluated first.

@@ -1,19 +1,20 @@
 //! Expressions whose values are dropped.
 
-ghost use Rattle.std.specs.Prelude.{◌≡◌, ℕ};
+ghost use Rattle.std.specs.Prelude.{◌≡◌, ℕ, Some};
 ghost use Rattle.c_typed.specs.Typed.{expr, assign, inc_dec, some_expr, ProgramTree};
 ghost use Rattle.c_interp_def.specs.declared.task.Flow.TheVariants.{Normal};
 ghost use Rattle.c_interp_def.specs.StmtTasks.{optional_tasks};
+ghost use Rattle.c_interp_expand.specs.TaskViews.{slots_of};
 ghost use Rattle.c_interp_layout.specs.Laid.{IsLaid};
+ghost use Rattle.c_interp_answer.specs.Answered.{place_slot};
 ghost use Rattle.c_interp.specs.Steps.{IsStep, IsPerformed, tasks_do};
 
 use crate::evaluate::evaluate_unknown;
 use crate::expression::incremented;
-use crate::known::{known, known_address, known_written};
+use crate::known::{known, known_address, known_written, slot_of, slot_value};
 use crate::machine::{Machine, Program};
 use crate::stop::Stop;
-use crate::variable::{set_slot, slot_read};
-use c_interp_answer::value_slot;
+use crate::variable::set_slot;
 use c_interp_def::{ExprTask, Task};
 use c_interp_value::{access_width, used};
 use c_type::CType;
@@ -91,19 +92,35 @@ fn assigned<'a>(
     ensures { (n : ℕ) → IsPerformed program.entry.typed.now n result machine.old machine.new
         (tasks_do program.entry.typed.now n (optional_tasks (some_expr (expr t.now (assign p.now a.now))))) }
 {
-    match value_slot(&machine.slots, p) {
-        Some(k) => match known(machine, program, a) {
-            Some(v) => {
-                let Some(w) = used(v) else {
-                    return Err(Stop::Undefined);
-                };
-                set_slot(&mut machine.slots, k, w);
-                Ok(true)
-            }
-            None => Ok(false),
-        },
+    match slot_of(machine, p) {
+        Some(k) => assigned_slot(machine, program, t, p, a, k),
         None => stored(machine, program, t, p, a),
     }
+}
+
+// The same to the variable at a slot.
+fn assigned_slot<'a>(
+    machine: &mut Machine<'a>,
+    program: Program<'a>,
+    t: &CType,
+    p: &'a TPlace,
+    a: &'a TExpr,
+    k: u32,
+) -> Result<bool, Stop>
+    requires laid { IsLaid program.typed.now program.layouts.now }
+    requires normal { machine.old.flow ≡ Normal }
+    requires at { Some k ≡ place_slot (slots_of machine.old.slots.items) p.now }
+    ensures { (n : ℕ) → IsPerformed program.entry.typed.now n result machine.old machine.new
+        (tasks_do program.entry.typed.now n (optional_tasks (some_expr (expr t.now (assign p.now a.now))))) }
+{
+    let Some(v) = known(machine, program, a) else {
+        return Ok(false);
+    };
+    let Some(w) = used(v) else {
+        return Err(Stop::Undefined);
+    };
+    set_slot(&mut machine.slots, k, w);
+    Ok(true)
 }
 
 // The same to an object.
@@ -119,21 +136,19 @@ fn stored<'a>(
     ensures { (n : ℕ) → IsPerformed program.entry.typed.now n result machine.old machine.new
         (tasks_do program.entry.typed.now n (optional_tasks (some_expr (expr t.now (assign p.now a.now))))) }
 {
-    match known_address(machine, program, p) {
-        Some(at) => match known(machine, program, a) {
-            Some(v) => {
-                let Some(w) = used(v) else {
-                    return Err(Stop::Undefined);
-                };
-                if machine.store.store(access_width(t), at, w) {
-                    Ok(true)
-                } else {
-                    Err(Stop::Undefined)
-                }
-            }
-            None => Ok(false),
-        },
-        None => Ok(false),
+    let Some(at) = known_address(machine, program, p) else {
+        return Ok(false);
+    };
+    let Some(v) = known(machine, program, a) else {
+        return Ok(false);
+    };
+    let Some(w) = used(v) else {
+        return Err(Stop::Undefined);
+    };
+    if machine.store.store(access_width(t), at, w) {
+        Ok(true)
+    } else {
+        Err(Stop::Undefined)
     }
 }
 
@@ -148,10 +163,10 @@ fn stepped<'a>(
     ensures { (q : ProgramTree) (n : ℕ) → IsPerformed q n result machine.old machine.new
         (tasks_do q n (optional_tasks (some_expr (expr t.now (inc_dec step p.now))))) }
 {
-    let Some(k) = value_slot(&machine.slots, p) else {
+    let Some(k) = slot_of(machine, p) else {
         return Ok(false);
     };
-    let Some(old) = slot_read(&machine.slots, k) else {
+    let Some(old) = slot_value(machine, k) else {
         return Err(Stop::Undefined);
     };
     let Some(w) = incremented(&machine.store, step, t, old) else {

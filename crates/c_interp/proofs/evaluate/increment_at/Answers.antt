@@ -1,14 +1,4 @@
-use Rattle.std.proofs.Common.{sym}
-use Rattle.c_typed.specs.WellTyped.{type_of}
-use Rattle.c_interp.proofs.Unknown.{stepped_at, not_loaded}
 use Rattle.c_interp.proofs.evaluate.increment_at.Goals as goal
 
-pub returns-in_default : goal.returns-in_default
-returns-in_default c = λ n.
-    not_loaded c.args.program.typed.now n _ c.args.machine.now c.args.machine.now (type_of c.args.e.now) c.args.step c.args.p.now c.in-Some.at (c.in-Some.ensures n) (λ calls m h. c.in_default.ensures calls m h)
-
-pub returns-in-Some-loaded : goal.returns-in-Some-loaded
-returns-in-Some-loaded c = λ n.
-    let p = c.args.program.typed.now in
-    stepped_at p n c.step_at.result c.args.machine.now c.step_at.new.machine (type_of c.args.e.now) c.args.step c.args.p.now c.push.new.self c.push-2.new.self c.in-Some.at c.in-Some-loaded.old (c.in-Some.ensures n)
-    (λ calls m h. c.in-Some-loaded.ensures calls m h) c.in_ok-push.ensures.items c.in_ok-push-2.ensures.items (c.step_at.ensures p n)
+pub returns-in-Some : goal.returns-in-Some
+returns-in-Some c = c.increment_known.ensures

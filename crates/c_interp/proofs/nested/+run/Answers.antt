@@ -282,19 +282,22 @@ declare_to-returns-in-Elements m c =
     (declared_step p n c.items_to-in-Elements.result old c.items_to-in-Elements.new.machine c.push.new.self c.push-2.new.self _ i is (c.len-count.ensures ∙ old.slots.ok.0) c.in_ok-push.ensures.items
     c.in_ok-push-2.ensures.items c.items_to-in-Elements.ensures)
 
-pub begin_to-returns-in_default : goal.begin_to-returns-in_default
-begin_to-returns-in_default m c =
+pub begin_to-returns-in-Some : goal.begin_to-returns-in-Some
+begin_to-returns-in-Some m c = c.begin_known.ensures
+
+pub begin_known-returns-in_default : goal.begin_known-returns-in_default
+begin_known-returns-in_default m c =
     let p = c.args.program.typed.now in
     let n = c.args.program.bound in
-    not_begun p n c.args.machine.now c.args.e.now c.in-Some.v (c.in-Some.ensures n) (items_of c.args.rest.now) c.args.machine.now c.in_default.ensures
+    not_begun p n c.args.machine.now c.args.e.now c.args.v (c.requires.known n) (items_of c.args.rest.now) c.args.machine.now c.in_default.ensures
 
-pub begin_to-returns-in-Some-used : goal.begin_to-returns-in-Some-used
-begin_to-returns-in-Some-used m c =
+pub begin_known-returns : goal.begin_known-returns
+begin_known-returns m c =
     let p = c.args.program.typed.now in
     let n = c.args.program.bound in
     let old = c.args.machine.now in
-    begun_step p n old c.args.e.now c.in-Some.v (c.in-Some.ensures n) (items_of c.args.rest.now) c.items_to.result c.items_to.new.machine c.push.new.self c.in-Some-used.w c.in-Some-used.ensures
-    (c.in_ok-push.ensures.items ∙ ap (λ l. l ++ Holds c.in-Some-used.w ∷ []) (c.pop.ensures.rest ∙ ap (λ k. take (k - 1) old.slots.items) old.slots.ok.0)) c.items_to.ensures
+    begun_step p n old c.args.e.now c.args.v (c.requires.known n) (items_of c.args.rest.now) c.items_to.result c.items_to.new.machine c.push.new.self c.in-Some.w c.in-Some.ensures
+    (c.in_ok-push.ensures.items ∙ ap (λ l. l ++ Holds c.in-Some.w ∷ []) (c.pop.ensures.rest ∙ ap (λ k. take (k - 1) old.slots.items) old.slots.ok.0)) c.items_to.ensures
 
 pub begin_to-returns-in-None : goal.begin_to-returns-in-None
 begin_to-returns-in-None m c = c.begin_later.ensures c.args.program.bound

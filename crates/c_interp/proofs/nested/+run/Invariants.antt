@@ -33,7 +33,10 @@ abbrev pub decreases-value_to : goal.decreases-value_to
 decreases-value_to l = 8 * l.depth + 4
 
 abbrev pub decreases-declare_to : goal.decreases-declare_to
-decreases-declare_to l = 8 * l.depth + 5
+decreases-declare_to l = 8 * l.depth + 6
 
 abbrev pub decreases-begin_to : goal.decreases-begin_to
-decreases-begin_to l = 8 * l.depth + 4
+decreases-begin_to l = 8 * l.depth + 5
+
+abbrev pub decreases-begin_known : goal.decreases-begin_known
+decreases-begin_known l = 8 * l.depth + 4

@@ -1,9 +1,9 @@
 use Rattle.c_interp.proofs.Performed.{stored_moved, not_stored, none_stored}
 use Rattle.c_interp.proofs.perform.stored.Goals as goal
 
-pub returns-in_default : goal.returns-in_default
-returns-in_default c = λ n.
-    none_stored c.args.program.typed.now n c.args.machine.now c.args.t.now c.args.p.now c.args.a.now c.args.machine.now c.in-Some.at c.in-Some-known.v (c.in-Some.ensures n) (c.in-Some-known.ensures n) c.in_default.ensures
+pub returns-in_default-used : goal.returns-in_default-used
+returns-in_default-used c = λ n.
+    none_stored c.args.program.typed.now n c.args.machine.now c.args.t.now c.args.p.now c.args.a.now c.args.machine.now c.in-Some.at c.in-Some-known.v (c.in-Some.ensures n) (c.in-Some-known.ensures n) c.in_default-used.ensures
 
 pub returns-then-store : goal.returns-then-store
 returns-then-store c = λ n.

@@ -1,3 +1,10 @@
+use Rattle.c_interp.proofs.Performed.{moved_step}
+use Rattle.c_interp.proofs.Items.{expanded_step}
+use Rattle.c_interp.proofs.Unknown.{unary_put}
+use Rattle.c_interp.proofs.Evaluated.{pass_put}
+use Rattle.c_interp.proofs.Reached.{none_left}
+use Rattle.c_interp.proofs.CallSteps.{call_cut}
+use Rattle.c_interp.proofs.Frames.{params-read}
 use Rattle.std.proofs.Common.{[], refl, sym}
 use Rattle.std.proofs.Common.{◌%◌}
 use Rattle.val_core.specs.Answers.{Exited}
