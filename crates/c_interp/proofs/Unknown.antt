@@ -59,17 +59,28 @@ module _ (p : ProgramTree) (n : ℕ) (r : Result Unit Stop) (old new : Machine) 
       same_step p n r old new (expr_task_run p n (task.evaluate (expr t (tree.unary o a)))) (λ x. then_on (expr_task_run p n (task.evaluate a) x) (task_run p n w))
       (λ m i held. let x : Configuration = config_of old m i in expression-expands p n t (tree.unary o a) x ∙ ap (λ ts. tasks_run p n ts (normally x)) is) step
 
-  pub and_put : (a b : ExprTree) → IsStep p n r old new (λ x. then_on (expr_task_run p n (task.evaluate a) x) (task_run p n (of_expr (task.and_also (type_of a) b)))) →
+  pub and_put : (a b : ExprTree) (w : Task) → w ≡ of_expr (task.and_also (type_of a) b) → IsStep p n r old new (λ x. then_on (expr_task_run p n (task.evaluate a) x) (task_run p n w)) →
       IsStep p n r old new (expr_task_run p n (task.evaluate (expr t (tree.logical_and a b))))
-  and_put a b step =
-      same_step p n r old new (expr_task_run p n (task.evaluate (expr t (tree.logical_and a b)))) (λ x. then_on (expr_task_run p n (task.evaluate a) x) (task_run p n (of_expr (task.and_also (type_of a) b))))
-      (λ m i held. expression-expands p n t (tree.logical_and a b) (config_of old m i)) step
+  and_put a b w is step =
+      same_step p n r old new (expr_task_run p n (task.evaluate (expr t (tree.logical_and a b)))) (λ x. then_on (expr_task_run p n (task.evaluate a) x) (task_run p n w))
+      (λ m i held.
+      let x : Configuration = config_of old m i in
+      expression-expands p n t (tree.logical_and a b) x ∙ ap (λ z. then_on (expr_task_run p n (task.evaluate a) x) (task_run p n z)) (sym is))
+      step
 
-  pub or_put : (a b : ExprTree) → IsStep p n r old new (λ x. then_on (expr_task_run p n (task.evaluate a) x) (task_run p n (of_expr (task.or_else (type_of a) b)))) →
+  pub or_put : (a b : ExprTree) (w : Task) → w ≡ of_expr (task.or_else (type_of a) b) → IsStep p n r old new (λ x. then_on (expr_task_run p n (task.evaluate a) x) (task_run p n w)) →
       IsStep p n r old new (expr_task_run p n (task.evaluate (expr t (tree.logical_or a b))))
-  or_put a b step =
-      same_step p n r old new (expr_task_run p n (task.evaluate (expr t (tree.logical_or a b)))) (λ x. then_on (expr_task_run p n (task.evaluate a) x) (task_run p n (of_expr (task.or_else (type_of a) b))))
-      (λ m i held. expression-expands p n t (tree.logical_or a b) (config_of old m i)) step
+  or_put a b w is step =
+      same_step p n r old new (expr_task_run p n (task.evaluate (expr t (tree.logical_or a b)))) (λ x. then_on (expr_task_run p n (task.evaluate a) x) (task_run p n w))
+      (λ m i held.
+      let x : Configuration = config_of old m i in
+      expression-expands p n t (tree.logical_or a b) x ∙ ap (λ z. then_on (expr_task_run p n (task.evaluate a) x) (task_run p n z)) (sym is))
+      step
+
+  pub tested_put : (b : ExprTree) (w : Task) → w ≡ of_expr (task.test (type_of b)) → IsStep p n r old new (λ x. then_on (expr_task_run p n (task.evaluate b) x) (task_run p n w)) → IsStep p n r old new (tested_run p n b)
+  tested_put b w is step =
+      same_step p n r old new (tested_run p n b) (λ x. then_on (expr_task_run p n (task.evaluate b) x) (task_run p n w))
+      (λ m i held. ap (λ z. then_on (expr_task_run p n (task.evaluate b) (config_of old m i)) (task_run p n z)) (sym is)) step
 
   and-known : (a b : ExprTree) (d : Bool) (x : Configuration) → HasTruth (context p n x) a (state_of x) d →
       expr_task_run p n (task.evaluate (expr t (tree.logical_and a b))) x ≡ (if d then tested_run p n b x else give_run (Some (Num 0)) x)
@@ -148,36 +159,36 @@ module _ (p : ProgramTree) (n : ℕ) (r : Result Unit Stop) (old new : Machine) 
 
   -- ---- `++` and `--`
 
-  pub step_put : (e : ExprTree) (i : IncDec) (q : PlaceTree) → e ≡ expr t (tree.inc_dec i q) → None ≡ place_slot (slots_of old.slots.items) q →
-      IsStep p n r old new (tasks_do p n (of_expr (task.step_at i t) ∷ of_expr (task.load_at t) ∷ of_expr (task.locate q) ∷ [])) → IsStep p n r old new (expr_task_run p n (task.evaluate e))
-  step_put e i q is at step =
-      same_step p n r old new (expr_task_run p n (task.evaluate e)) (tasks_do p n (of_expr (task.step_at i t) ∷ of_expr (task.load_at t) ∷ of_expr (task.locate q) ∷ []))
+  pub step_put : (i : IncDec) (q : PlaceTree) → None ≡ place_slot (slots_of old.slots.items) q →
+      IsStep p n r old new (tasks_do p n (of_expr (task.step_at i t) ∷ of_expr (task.load_at t) ∷ of_expr (task.locate q) ∷ [])) → IsStep p n r old new (expr_task_run p n (task.evaluate (expr t (tree.inc_dec i q))))
+  step_put i q at step =
+      same_step p n r old new (expr_task_run p n (task.evaluate (expr t (tree.inc_dec i q)))) (tasks_do p n (of_expr (task.step_at i t) ∷ of_expr (task.load_at t) ∷ of_expr (task.locate q) ∷ []))
       (λ m input held.
       let x : Configuration = config_of old m input in
-      ap (λ z. expr_task_run p n (task.evaluate z) x) is ∙ expression-expands p n t (tree.inc_dec i q) x
+      expression-expands p n t (tree.inc_dec i q) x
       ∙ ap (λ o. tasks_run p n (of_exprs (step_tasks i t q o)) (normally x)) (slot-of q None at))
       step
 
-  slot-stepped : (e : ExprTree) (i : IncDec) (q : PlaceTree) (k : ℕ) (m : Memory) (input : List ℕ) → e ≡ expr t (tree.inc_dec i q) → Some k ≡ place_slot (slots_of old.slots.items) q →
+  slot-stepped : (i : IncDec) (q : PlaceTree) (k : ℕ) (m : Memory) (input : List ℕ) → Some k ≡ place_slot (slots_of old.slots.items) q →
       let x : Configuration = config_of old m input in
-      expr_task_run p n (task.evaluate e) x ≡ then_on (give_run (slot_read (slice_get (slots_of old.slots.items) k)) x) (task_run p n (of_expr (task.step_slot k i t)))
-  slot-stepped e i q k m input is at =
+      expr_task_run p n (task.evaluate (expr t (tree.inc_dec i q))) x ≡ then_on (give_run (slot_read (slice_get (slots_of old.slots.items) k)) x) (task_run p n (of_expr (task.step_slot k i t)))
+  slot-stepped i q k m input at =
       let x : Configuration = config_of old m input in
-      ap (λ z. expr_task_run p n (task.evaluate z) x) is ∙ expression-expands p n t (tree.inc_dec i q) x
+      expression-expands p n t (tree.inc_dec i q) x
       ∙ ap (λ o. tasks_run p n (of_exprs (step_tasks i t q o)) (normally x)) (slot-of q (Some k) at)
       ∙ ap (λ a. then_on a (task_run p n (of_expr (task.step_slot k i t)))) (slot-gives t k x)
 
-  pub slot_stepped : (e : ExprTree) (i : IncDec) (q : PlaceTree) (k : ℕ) (many : Vec Value Global) (v : Value) → e ≡ expr t (tree.inc_dec i q) → Some k ≡ place_slot (slots_of old.slots.items) q →
+  pub slot_stepped : (i : IncDec) (q : PlaceTree) (k : ℕ) (many : Vec Value Global) (v : Value) → Some k ≡ place_slot (slots_of old.slots.items) q →
       Some v ≡ slot_read (slice_get (slots_of old.slots.items) k) → many.items ≡ old.operands.items ++ v ∷ [] →
-      IsStep p n r (with_ops old many) new (expr_task_run p n (task.step_slot k i t)) → IsStep p n r old new (expr_task_run p n (task.evaluate e))
-  slot_stepped e i q k many v is at read pushed step =
-      moved p n r old (with_ops old many) new (expr_task_run p n (task.evaluate e)) (expr_task_run p n (task.step_slot k i t)) refl
+      IsStep p n r (with_ops old many) new (expr_task_run p n (task.step_slot k i t)) → IsStep p n r old new (expr_task_run p n (task.evaluate (expr t (tree.inc_dec i q))))
+  slot_stepped i q k many v at read pushed step =
+      moved p n r old (with_ops old many) new (expr_task_run p n (task.evaluate (expr t (tree.inc_dec i q)))) (expr_task_run p n (task.step_slot k i t)) refl
       (λ m held. (
         m,
         record { store = held.store; counts = held.counts },
         λ input.
             let x : Configuration = config_of old m input in
-            slot-stepped e i q k m input is at
+            slot-stepped i q k m input at
             ∙ ap (λ o. then_on (give_run o x) (task_run p n (of_expr (task.step_slot k i t)))) (sym read)
             ∙ ap (λ vs. expr_task_run p n (task.step_slot k i t) (with_operands x vs)) (sym (newest-one old.operands.items many.items v pushed)),
       ))
@@ -222,11 +233,11 @@ module _ (p : ProgramTree) (n : ℕ) (r : Result Unit Stop) (old new : Machine) 
       undefined_step p n old new (passed_then p n e es)
       (λ m i held. passed-known e es v m i held known ∙ ap (λ o. then_on (give_run o (config_of old m i)) (task_run p n (of_expr (task.pass_each es)))) (sym none))
 
-  pub not_read : (e : ExprTree) (i : IncDec) (q : PlaceTree) (k : ℕ) → e ≡ expr t (tree.inc_dec i q) → Some k ≡ place_slot (slots_of old.slots.items) q → None ≡ slot_read (slice_get (slots_of old.slots.items) k) →
-      IsStep p n (Err stop.Undefined) old new (expr_task_run p n (task.evaluate e))
-  not_read e i q k is at none =
-      undefined_step p n old new (expr_task_run p n (task.evaluate e))
-      (λ m input held. slot-stepped e i q k m input is at ∙ ap (λ o. then_on (give_run o (config_of old m input)) (task_run p n (of_expr (task.step_slot k i t)))) (sym none))
+  pub not_read : (i : IncDec) (q : PlaceTree) (k : ℕ) → Some k ≡ place_slot (slots_of old.slots.items) q → None ≡ slot_read (slice_get (slots_of old.slots.items) k) →
+      IsStep p n (Err stop.Undefined) old new (expr_task_run p n (task.evaluate (expr t (tree.inc_dec i q))))
+  not_read i q k at none =
+      undefined_step p n old new (expr_task_run p n (task.evaluate (expr t (tree.inc_dec i q))))
+      (λ m input held. slot-stepped i q k m input at ∙ ap (λ o. then_on (give_run o (config_of old m input)) (task_run p n (of_expr (task.step_slot k i t)))) (sym none))
 
   pub not_loaded : (i : IncDec) (q : PlaceTree) (at : Value) → Knows p n old (λ c s. IsAddress c q s (Some at)) → ((calls : List Opened) (m : Memory) → Holds old.store calls m → None ≡ loaded_value t at m) →
       IsStep p n (Err stop.Undefined) old new (tasks_do p n (of_expr (task.step_at i t) ∷ of_expr (task.load_at t) ∷ of_expr (task.locate q) ∷ []))

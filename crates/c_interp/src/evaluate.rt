@@ -150,7 +150,7 @@ fn unknown_to<'a>(
         ExprForm::Unary(op, a) => unary_to(machine, program, *op, &e.ty, a, depth - 1),
         ExprForm::LogicalAnd(a, b) => and_to(machine, program, a, b, depth - 1),
         ExprForm::LogicalOr(a, b) => or_to(machine, program, a, b, depth - 1),
-        ExprForm::Read(p) => read_to(machine, program, e, p, depth - 1),
+        ExprForm::Read(p) => read_to(machine, program, e, &e.ty, p, depth - 1),
         ExprForm::Assign(p, a) => assign_to(machine, program, &e.ty, p, a, depth - 1),
         ExprForm::IncDec(step, p) => increment(machine, program, e, *step, p),
         _ => expand(machine, e),
@@ -179,6 +179,27 @@ fn operation<'a>(op: BinaryOp, a: &'a TExpr, b: &'a TExpr) -> Task<'a>
     ensures { task_of result ≡ of_expr (task.binary op (type_of a.now) (type_of b.now)) }
 {
     Task::OfExpr(ExprTask::Binary(op, &a.ty, &b.ty))
+}
+
+// What `&&` does with its left operand.
+fn and_task<'a>(a: &'a TExpr, b: &'a TExpr) -> Task<'a>
+    ensures { task_of result ≡ of_expr (task.and_also (type_of a.now) b.now) }
+{
+    Task::OfExpr(ExprTask::AndAlso(&a.ty, b))
+}
+
+// What `||` does with its left operand.
+fn or_task<'a>(a: &'a TExpr, b: &'a TExpr) -> Task<'a>
+    ensures { task_of result ≡ of_expr (task.or_else (type_of a.now) b.now) }
+{
+    Task::OfExpr(ExprTask::OrElse(&a.ty, b))
+}
+
+// What is done with an expression of which the truth is wanted.
+fn test_task<'a>(b: &'a TExpr) -> Task<'a>
+    ensures { task_of result ≡ of_expr (task.test (type_of b.now)) }
+{
+    Task::OfExpr(ExprTask::Test(&b.ty))
 }
 
 // What a unary operator does with its operand.
@@ -239,9 +260,7 @@ fn and_to<'a>(
         Some(true) => test_to(machine, program, b, depth),
         Some(false) => give(machine, Some(Value::Num(0))),
         None => {
-            machine
-                .tasks
-                .push(Task::OfExpr(ExprTask::AndAlso(&a.ty, b)))?;
+            machine.tasks.push(and_task(a, b))?;
             evaluate_to(machine, program, a, depth)
         }
     }
@@ -266,7 +285,7 @@ fn or_to<'a>(
         Some(true) => give(machine, Some(Value::Num(1))),
         Some(false) => test_to(machine, program, b, depth),
         None => {
-            machine.tasks.push(Task::OfExpr(ExprTask::OrElse(&a.ty, b)))?;
+            machine.tasks.push(or_task(a, b))?;
             evaluate_to(machine, program, a, depth)
         }
     }
@@ -285,7 +304,7 @@ fn test_to<'a>(
     ensures { (n : ℕ) → IsStep program.entry.typed.now n result machine.old machine.new
         (tested_run program.entry.typed.now n b.now) }
 {
-    machine.tasks.push(Task::OfExpr(ExprTask::Test(&b.ty)))?;
+    machine.tasks.push(test_task(b))?;
     evaluate_to(machine, program, b, depth)
 }
 
@@ -564,19 +583,20 @@ fn read_to<'a>(
     machine: &mut Machine<'a>,
     program: Program<'a>,
     e: &'a TExpr,
+    t: &'a CType,
     p: &'a TPlace,
     depth: u32,
 ) -> Result<(), Stop>
     requires laid { IsLaid program.typed.now program.layouts.now }
     requires normal { machine.old.flow ≡ Normal }
-    requires is { e.now ≡ expr (type_of e.now) (read p.now) }
+    requires is { e.now ≡ expr t.now (read p.now) }
     ensures { (n : ℕ) → IsStep program.entry.typed.now n result machine.old machine.new
         (expr_task_run program.entry.typed.now n (task.evaluate e.now)) }
 {
     match slot_of(machine, p) {
         Some(_) => expand(machine, e),
         None => {
-            machine.tasks.push(Task::OfExpr(ExprTask::LoadFrom(&e.ty)))?;
+            machine.tasks.push(Task::OfExpr(ExprTask::LoadFrom(t)))?;
             locate_to(machine, program, p, depth)
         }
     }
@@ -657,7 +677,7 @@ fn increment<'a>(
             set_slot(&mut machine.slots, w.slot, Value::Num(w.word));
             give_value(machine, Value::Num(w.given))
         }
-        None => increment_more(machine, program, e, step, p),
+        None => increment_more(machine, program, &e.ty, step, p),
     }
 }
 
@@ -665,63 +685,61 @@ fn increment<'a>(
 fn increment_more<'a>(
     machine: &mut Machine<'a>,
     program: Program<'a>,
-    e: &'a TExpr,
+    t: &'a CType,
     step: IncDec,
     p: &'a TPlace,
 ) -> Result<(), Stop>
     requires laid { IsLaid program.typed.now program.layouts.now }
     requires normal { machine.old.flow ≡ Normal }
-    requires is { e.now ≡ expr (type_of e.now) (inc_dec step p.now) }
     ensures { (n : ℕ) → IsStep program.entry.typed.now n result machine.old machine.new
-        (expr_task_run program.entry.typed.now n (task.evaluate e.now)) }
+        (expr_task_run program.entry.typed.now n (task.evaluate (expr t.now (inc_dec step p.now)))) }
 {
     match slot_of(machine, p) {
-        Some(k) => increment_slot(machine, e, step, p, k),
-        None => increment_at(machine, program, e, step, p),
+        Some(k) => increment_slot(machine, t, step, p, k),
+        None => increment_at(machine, program, t, step, p),
     }
 }
 
 // The same of the variable at a slot.
 fn increment_slot<'a>(
     machine: &mut Machine<'a>,
-    e: &'a TExpr,
+    t: &'a CType,
     step: IncDec,
     p: &'a TPlace,
     k: u32,
 ) -> Result<(), Stop>
     requires normal { machine.old.flow ≡ Normal }
-    requires is { e.now ≡ expr (type_of e.now) (inc_dec step p.now) }
     requires at { Some k ≡ place_slot (slots_of machine.old.slots.items) p.now }
     ensures { (q : ProgramTree) (n : ℕ) → IsStep q n result machine.old machine.new
-        (expr_task_run q n (task.evaluate e.now)) }
+        (expr_task_run q n (task.evaluate (expr t.now (inc_dec step p.now)))) }
 {
     let Some(old) = slot_value(machine, k) else {
         return Err(Stop::Undefined);
     };
     machine.operands.push(old)?;
-    step_slot(machine, k, step, &e.ty)
+    step_slot(machine, k, step, t)
 }
 
 // The same of an object.
 fn increment_at<'a>(
     machine: &mut Machine<'a>,
     program: Program<'a>,
-    e: &'a TExpr,
+    t: &'a CType,
     step: IncDec,
     p: &'a TPlace,
 ) -> Result<(), Stop>
     requires laid { IsLaid program.typed.now program.layouts.now }
     requires normal { machine.old.flow ≡ Normal }
     ensures { (n : ℕ) → IsStep program.entry.typed.now n result machine.old machine.new
-        (tasks_do program.entry.typed.now n (of_expr (task.step_at step (type_of e.now))
-        ∷ of_expr (task.load_at (type_of e.now)) ∷ of_expr (task.locate p.now) ∷ [])) }
+        (tasks_do program.entry.typed.now n (of_expr (task.step_at step t.now)
+        ∷ of_expr (task.load_at t.now) ∷ of_expr (task.locate p.now) ∷ [])) }
 {
     match known_address(machine, program, p) {
-        Some(at) => increment_known(machine, program, at, e, step, p),
+        Some(at) => increment_known(machine, program, at, t, step, p),
         None => put3(
             machine,
-            Task::OfExpr(ExprTask::StepAt(step, &e.ty)),
-            Task::OfExpr(ExprTask::LoadAt(&e.ty)),
+            Task::OfExpr(ExprTask::StepAt(step, t)),
+            Task::OfExpr(ExprTask::LoadAt(t)),
             Task::OfExpr(ExprTask::Locate(p)),
         ),
     }
@@ -732,7 +750,7 @@ fn increment_known<'a>(
     machine: &mut Machine<'a>,
     program: Program<'a>,
     at: Value,
-    e: &'a TExpr,
+    t: &'a CType,
     step: IncDec,
     p: &'a TPlace,
 ) -> Result<(), Stop>
@@ -741,13 +759,13 @@ fn increment_known<'a>(
     requires known { (n : ℕ) → Knows program.typed.now n machine.old
         (λ c s. IsAddress c p.now s (Some at)) }
     ensures { (n : ℕ) → IsStep program.entry.typed.now n result machine.old machine.new
-        (tasks_do program.entry.typed.now n (of_expr (task.step_at step (type_of e.now))
-        ∷ of_expr (task.load_at (type_of e.now)) ∷ of_expr (task.locate p.now) ∷ [])) }
+        (tasks_do program.entry.typed.now n (of_expr (task.step_at step t.now)
+        ∷ of_expr (task.load_at t.now) ∷ of_expr (task.locate p.now) ∷ [])) }
 {
-    let Some(old) = loaded(&machine.store, &e.ty, at) else {
+    let Some(old) = loaded(&machine.store, t, at) else {
         return Err(Stop::Undefined);
     };
     machine.operands.push(at)?;
     machine.operands.push(old)?;
-    step_at(machine, step, &e.ty)
+    step_at(machine, step, t)
 }

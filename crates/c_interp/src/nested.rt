@@ -2,7 +2,7 @@
 
 ghost use Rattle.std.specs.Prelude.{◌≡◌, ◌∷◌, [], ℕ, Some};
 ghost use Rattle.val_core.specs.Answers.{then_on};
-ghost use Rattle.c_typed.specs.Typed.{ProgramTree, OptionalExpr, some_expr, if_else};
+ghost use Rattle.c_typed.specs.Typed.{ProgramTree, OptionalExpr, some_expr, declare_then, if_else};
 ghost use Rattle.c_typed.specs.StmtViews.{items_of, initial_of};
 ghost use Rattle.c_interp_def.specs.declared.task.Flow.TheVariants.{Normal};
 ghost use Rattle.c_interp_def.specs.StmtTasks as stmt;
@@ -176,8 +176,11 @@ fn items_to<'a>(
     ensures { IsStep program.entry.typed.now program.entry.bound result machine.old machine.new
         (stmt_task_run program.entry.typed.now program.entry.bound (stmt.run_items (items_of items.now))) }
 {
+    if depth == 0 {
+        return expand_items(machine, program, items);
+    }
     match items.split_first() {
-        Some((first, rest)) => item_to(machine, program, items, first, rest, depth),
+        Some((first, rest)) => item_to(machine, program, items, first, rest, depth - 1),
         None => Ok(()),
     }
 }
@@ -198,19 +201,32 @@ fn item_to<'a>(
     ensures { IsStep program.entry.typed.now program.entry.bound result machine.old machine.new
         (stmt_task_run program.entry.typed.now program.entry.bound (stmt.run_items (items_of items.now))) }
 {
-    if depth == 0 {
-        return expand_items(machine, program, items);
-    }
     match first {
-        Item::Statement(a) => first_to(machine, program, a, rest, depth - 1),
-        Item::Variable(d) => {
-            if is_value(program, machine.frame.function, d.variable) {
-                declare_to(machine, program, &d.initial, rest, depth - 1)
-            } else {
-                expand_items(machine, program, items)
-            }
-        }
+        Item::Statement(a) => first_to(machine, program, a, rest, depth),
+        Item::Variable(d) => variable_to(machine, program, items, d, rest, depth),
     }
+}
+
+// A declaration, and the items after it.
+#[cycle(run)]
+fn variable_to<'a>(
+    machine: &mut Machine<'a>,
+    program: Program<'a>,
+    items: &'a [Item],
+    d: &'a Declaration,
+    rest: &'a [Item],
+    depth: u32,
+) -> Result<(), Stop>
+    requires laid { IsLaid program.typed.now program.layouts.now }
+    requires normal { machine.old.flow ≡ Normal }
+    requires is { items_of items.now ≡ declare_then d.now (items_of rest.now) }
+    ensures { IsStep program.entry.typed.now program.entry.bound result machine.old machine.new
+        (stmt_task_run program.entry.typed.now program.entry.bound (stmt.run_items (items_of items.now))) }
+{
+    if is_value(program, machine.frame.function, d.variable) {
+        return declare_to(machine, program, &d.initial, rest, depth);
+    }
+    expand_items(machine, program, items)
 }
 
 // A statement, and the items after it.

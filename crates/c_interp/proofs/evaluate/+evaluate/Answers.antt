@@ -6,7 +6,7 @@ use Rattle.c_typed.specs.Typed.{ExprTree, FormTree, expr, read, unary, binary, l
 use Rattle.c_typed.specs.WellTyped.{type_of}
 use Rattle.c_interp_answer.proofs.Arms.{form_in, whole}
 use Rattle.c_interp_expand.proofs.Pushed.{count_is}
-use Rattle.c_interp_def.specs.declared.task.ExprTask.TheVariants.{Evaluate, PassEach, UseIt, Call, MemberAt, StoreSlot, StoreAt}
+use Rattle.c_interp_def.specs.declared.task.ExprTask.TheVariants.{Evaluate, PassEach, UseIt, Call, MemberAt, StoreSlot, StoreAt, LoadFrom}
 use Rattle.c_interp_def.specs.declared.task.Task.TheVariants.{OfExpr}
 use Rattle.c_interp_def.specs.ExprTasks as task
 use Rattle.c_interp_def.specs.ExprTasks.{expr_task_run}
@@ -14,7 +14,7 @@ use Rattle.c_interp_def.specs.StmtTasks.{of_expr, task_run}
 use Rattle.c_interp.specs.Steps.{IsStep, passed_run}
 use Rattle.c_interp.proofs.Steps.{with_ops, with_tasks}
 use Rattle.c_interp.proofs.AtOnce.{put_then, is-zero, known_step, located_step}
-use Rattle.c_interp.proofs.Unknown.{unary_put, and_put, or_put, and_true, and_false, or_true, or_false, read_put, assign_slot, assign_put, passed_value, not_passed, at_put, member_put, located_then, type_in, place_form_in, place-whole}
+use Rattle.c_interp.proofs.Unknown.{unary_put, tested_put, and_put, or_put, and_true, and_false, or_true, or_false, read_put, assign_slot, assign_put, passed_value, not_passed, at_put, member_put, located_then, type_in, place_form_in, place-whole}
 use Rattle.c_interp.proofs.Evaluated.{chosen_step, other_step, choose_put, operated_step, operand_step, operate_put, call_put, pass_put, pass_none, pass_last}
 use Rattle.c_interp.proofs.evaluate.+evaluate.Goals as goal
 
@@ -98,8 +98,8 @@ unknown_to-returns-in-LogicalOr m c = λ n.
 
 pub unknown_to-read_to-requires-clause-is : goal.unknown_to-read_to-requires-clause-is
 unknown_to-read_to-requires-clause-is m c =
-    let e = c.args.e.now in
-    whole e (type_of e) (read c.in-Read.p) refl (sym (ap form_in c.e.view_is) ∙ ap form_of c.in-Read.is)
+    let t = c.deref-in-Read.result.now in
+    whole c.args.e.now t (read c.in-Read.p) (c.deref-in-Read.ensures ∙ ap type_of c.e.view_is) (sym (ap form_in c.e.view_is) ∙ ap form_of c.in-Read.is)
 
 pub unknown_to-returns-in-Assign : goal.unknown_to-returns-in-Assign
 unknown_to-returns-in-Assign m c = λ n.
@@ -139,8 +139,8 @@ pub and_to-returns-in_ok-push-in-None : goal.and_to-returns-in_ok-push-in-None
 and_to-returns-in_ok-push-in-None m c = λ t n.
     let p = c.args.program.typed.now in
     let old = c.args.machine.now in
-    and_put p n c.evaluate_to.result old c.evaluate_to.new.machine t c.args.a.now c.args.b.now
-    (put_then p n c.evaluate_to.result old c.evaluate_to.new.machine c.push.new.self _ (expr_task_run p n (task.evaluate c.args.a.now)) c.in_ok-push-in-None.ensures.items (c.evaluate_to.ensures n))
+    and_put p n c.evaluate_to.result old c.evaluate_to.new.machine t c.args.a.now c.args.b.now _ c.and_task.ensures
+    (put_then p n c.evaluate_to.result old c.evaluate_to.new.machine c.push.new.self c.and_task.result (expr_task_run p n (task.evaluate c.args.a.now)) c.in_ok-push-in-None.ensures.items (c.evaluate_to.ensures n))
 
 pub or_to-returns-in-Some-true : goal.or_to-returns-in-Some-true
 or_to-returns-in-Some-true m c = λ t n.
@@ -155,13 +155,17 @@ pub or_to-returns-in_ok-push-in-None : goal.or_to-returns-in_ok-push-in-None
 or_to-returns-in_ok-push-in-None m c = λ t n.
     let p = c.args.program.typed.now in
     let old = c.args.machine.now in
-    or_put p n c.evaluate_to.result old c.evaluate_to.new.machine t c.args.a.now c.args.b.now
-    (put_then p n c.evaluate_to.result old c.evaluate_to.new.machine c.push.new.self _ (expr_task_run p n (task.evaluate c.args.a.now)) c.in_ok-push-in-None.ensures.items (c.evaluate_to.ensures n))
+    or_put p n c.evaluate_to.result old c.evaluate_to.new.machine t c.args.a.now c.args.b.now _ c.or_task.ensures
+    (put_then p n c.evaluate_to.result old c.evaluate_to.new.machine c.push.new.self c.or_task.result (expr_task_run p n (task.evaluate c.args.a.now)) c.in_ok-push-in-None.ensures.items (c.evaluate_to.ensures n))
 
 pub test_to-returns : goal.test_to-returns
 test_to-returns m c = λ n.
     let p = c.args.program.typed.now in
-    put_then p n c.evaluate_to.result c.args.machine.now c.evaluate_to.new.machine c.push.new.self _ (expr_task_run p n (task.evaluate c.args.b.now)) c.in_ok-push.ensures.items (c.evaluate_to.ensures n)
+    let r = c.evaluate_to.result in
+    let old = c.args.machine.now in
+    let new = c.evaluate_to.new.machine in
+    tested_put p n r old new (type_of c.args.b.now) c.args.b.now _ c.test_task.ensures
+    (put_then p n r old new c.push.new.self c.test_task.result (expr_task_run p n (task.evaluate c.args.b.now)) c.in_ok-push.ensures.items (c.evaluate_to.ensures n))
 
 -- ---- `?:`
 
@@ -307,8 +311,8 @@ read_to-returns-in_ok-push-in-None m c = λ n.
     let p = c.args.program.typed.now in
     let old = c.args.machine.now in
     let new = c.locate_to.new.machine in
-    read_put p n c.locate_to.result old new (type_of c.args.e.now) c.args.e.now c.args.p.now c.requires.is c.in-None.ensures
-    (put_then p n c.locate_to.result old new c.push.new.self _ (expr_task_run p n (task.locate c.args.p.now)) c.in_ok-push-in-None.ensures.items (c.locate_to.ensures n))
+    read_put p n c.locate_to.result old new c.args.t.now c.args.e.now c.args.p.now c.requires.is c.in-None.ensures
+    (put_then p n c.locate_to.result old new c.push.new.self (OfExpr (LoadFrom c.args.t)) (expr_task_run p n (task.locate c.args.p.now)) c.in_ok-push-in-None.ensures.items (c.locate_to.ensures n))
 
 pub assign_to-returns-in_ok-push-in-Some : goal.assign_to-returns-in_ok-push-in-Some
 assign_to-returns-in_ok-push-in-Some m c = λ n.

@@ -1,4 +1,3 @@
-use Rattle.c_typed.specs.WellTyped.{type_of}
 use Rattle.c_interp.proofs.Unknown.{step_put}
 use Rattle.c_interp.proofs.evaluate.increment_more.Goals as goal
 
@@ -7,4 +6,4 @@ returns-in-Some c = λ n. c.increment_slot.ensures c.args.program.typed.now n
 
 pub returns-in-None : goal.returns-in-None
 returns-in-None c = λ n.
-    step_put c.args.program.typed.now n c.increment_at.result c.args.machine.now c.increment_at.new.machine (type_of c.args.e.now) c.args.e.now c.args.step c.args.p.now c.requires.is c.in-None.ensures (c.increment_at.ensures n)
+    step_put c.args.program.typed.now n c.increment_at.result c.args.machine.now c.increment_at.new.machine c.args.t.now c.args.step c.args.p.now c.in-None.ensures (c.increment_at.ensures n)

@@ -1,8 +1,8 @@
 -- Statements, items and turns, of which each is begun at once or becomes tasks.
 use Rattle.std.proofs.Common.{◌≡◌, ◌-◌, ◌∷◌, ◌++◌, ◌∙◌, suc, take, refl, sym, ap, ap₂, subst, arith}
 use Rattle.c_typed.specs.Typed as tree
-use Rattle.c_typed.specs.Typed.{StmtTree, stmt_then, declare_then}
-use Rattle.c_typed.specs.StmtViews.{stmt_of, optional_of, items_of, elements_of, initial_of, declaration_of}
+use Rattle.c_typed.specs.Typed.{StmtTree, stmt_then, DeclarationTree}
+use Rattle.c_typed.specs.StmtViews.{stmt_of, optional_of, items_of, elements_of, initial_of}
 use Rattle.c_interp_def.specs.declared.task.Handler.TheVariants.{EndSwitch, Again}
 use Rattle.c_interp_def.specs.declared.task.StmtTask.TheVariants.{RunItems}
 use Rattle.c_interp_def.specs.declared.task.Slot.TheVariants.{Holds}
@@ -10,10 +10,12 @@ use Rattle.c_interp_def.specs.declared.task.Task.TheVariants.{OfStmt, Handler}
 use Rattle.c_interp_def.specs.StmtTasks as stmt
 use Rattle.c_interp_def.specs.StmtTasks.{of_stmt, handler, optional_tasks, turn_tasks, stmt_task_run}
 use Rattle.c_interp.specs.Machines.{config_of}
-use Rattle.c_interp.specs.Steps.{IsStep, tasks_do, turns_do}
+use Rattle.c_interp_def.specs.Configurations.{variables_of}
+use Rattle.c_interp.specs.Steps.{IsStep, tasks_do, turns_do, is_value}
+use Rattle.std.specs.Prelude.{slice_get}
 use Rattle.c_interp.proofs.Steps.{end-cut}
 use Rattle.c_interp.proofs.AtOnce.{put_then, if_step, if_put, turn_step, while_true, while_false, while_put, no_items_step, last_item, first_item, none-left, is-zero, picks-true, picks-false, truth-is}
-use Rattle.c_interp.proofs.Performed.{is_moved, moved_then, not_performed}
+use Rattle.c_interp.proofs.Performed.{is_moved, moved_then, not_performed, performed_flow}
 use Rattle.c_interp.proofs.Items.{expanded_step, value_items, declared_items, declared_step, initial_step, begun_step, not_begun, turns_step}
 use Rattle.c_interp.proofs.nested.+run.Goals as goal
 
@@ -117,8 +119,8 @@ pub items_to-returns-in-None : goal.items_to-returns-in-None
 items_to-returns-in-None m c =
     no_items_step c.args.program.typed.now c.args.program.bound _ c.args.machine.now c.args.items.now c.requires.normal c.in-None.ensures.cases
 
-pub item_to-returns-then-depth-eq0 : goal.item_to-returns-then-depth-eq0
-item_to-returns-then-depth-eq0 m c = c.expand_items.ensures c.args.program.bound
+pub items_to-returns-then-depth-eq0 : goal.items_to-returns-then-depth-eq0
+items_to-returns-then-depth-eq0 m c = c.expand_items.ensures c.args.program.bound
 
 pub item_to-returns-in-Statement : goal.item_to-returns-in-Statement
 item_to-returns-in-Statement m c =
@@ -129,17 +131,20 @@ item_to-returns-in-Statement m c =
     let here : items_of c.args.items.now ≡ stmt_then a (items_of rest) = ap items_of c.requires.is ∙ ap (λ i. items_of (i ∷ rest)) c.in-Statement.is in
     first_item p n c.first_to.result c.args.machine.now c.first_to.new.machine (items_of c.args.items.now) a (items_of rest) here c.first_to.ensures
 
-pub item_to-returns-then-is_value : goal.item_to-returns-then-is_value
-item_to-returns-then-is_value m c =
+pub item_to-variable_to-requires-clause-is : goal.item_to-variable_to-requires-clause-is
+item_to-variable_to-requires-clause-is m c = ap items_of c.requires.is ∙ ap (λ i. items_of (i ∷ c.args.rest.now)) c.in-Variable.is
+
+pub variable_to-returns-then-is_value : goal.variable_to-returns-then-is_value
+variable_to-returns-then-is_value m c =
     let p = c.args.program.typed.now in
     let n = c.args.program.bound in
-    let rest = c.args.rest.now in
-    let d = declaration_of c.in-Variable.d in
-    let here : items_of c.args.items.now ≡ declare_then d (items_of rest) = ap items_of c.requires.is ∙ ap (λ i. items_of (i ∷ rest)) c.in-Variable.is in
-    declared_items p n c.declare_to.result c.args.machine.now c.declare_to.new.machine (items_of c.args.items.now) d _ (items_of rest) c.is_value.result here refl c.is_value.ensures c.if-is_value.true c.declare_to.ensures
+    let d = c.args.d.now in
+    declared_items p n c.declare_to.result c.args.machine.now c.declare_to.new.machine (items_of c.args.items.now) d _ (items_of c.args.rest.now) c.is_value.result c.requires.is
+    (ap (λ (x : DeclarationTree). x.initial) c.d.view_is) (c.is_value.ensures ∙ ap (λ (x : DeclarationTree). is_value (slice_get (variables_of p c.args.machine.now.frame.function) x.variable)) c.d.view_is)
+    c.if-is_value.true c.declare_to.ensures
 
-pub item_to-returns-else-is_value : goal.item_to-returns-else-is_value
-item_to-returns-else-is_value m c = c.expand_items-else.ensures c.args.program.bound
+pub variable_to-returns : goal.variable_to-returns
+variable_to-returns m c = c.expand_items.ensures c.args.program.bound
 
 pub first_to-returns-then-is_empty : goal.first_to-returns-then-is_empty
 first_to-returns-then-is_empty m c =
@@ -301,3 +306,11 @@ begin_known-returns m c =
 
 pub begin_to-returns-in-None : goal.begin_to-returns-in-None
 begin_to-returns-in-None m c = c.begin_later.ensures c.args.program.bound
+
+pub value_to-items_to-requires-clause-normal : goal.value_to-items_to-requires-clause-normal
+value_to-items_to-requires-clause-normal m c =
+    performed_flow c.args.program.typed.now c.args.program.bound c.in_ok-performed.field-0 c.args.machine.now c.performed.new.machine _ (c.in_ok-performed.ensures c.args.program.bound) c.requires.normal
+
+pub value_to-evaluate_and_drop-requires-clause-normal : goal.value_to-evaluate_and_drop-requires-clause-normal
+value_to-evaluate_and_drop-requires-clause-normal m c =
+    performed_flow c.args.program.typed.now c.args.program.bound c.in_ok-performed.field-0 c.args.machine.now c.performed.new.machine _ (c.in_ok-performed.ensures c.args.program.bound) c.requires.normal

@@ -24,7 +24,10 @@ abbrev pub decreases-items_to : goal.decreases-items_to
 decreases-items_to l = 8 * l.depth + 3
 
 abbrev pub decreases-item_to : goal.decreases-item_to
-decreases-item_to l = 8 * l.depth + 2
+decreases-item_to l = 8 * l.depth + 8
+
+abbrev pub decreases-variable_to : goal.decreases-variable_to
+decreases-variable_to l = 8 * l.depth + 7
 
 abbrev pub decreases-first_to : goal.decreases-first_to
 decreases-first_to l = 8 * l.depth + 5
