@@ -119,15 +119,17 @@ call_done p n f count u old mid new fn active flow depth there begins h m held =
 -- ---- a call that ends
 
 -- the machine with the caller of the newest call
-abbrev pub back_in : Machine → Active → Vec Active Global → Store → Machine
-back_in m caller few s = record { tasks = m.tasks; operands = m.operands; frame = caller.frame; slots = caller.slots; callers = few; flow = Normal; store = s; status = m.status; spare = m.slots }
+abbrev pub back_in : Machine → Active → (slots : Vec Slot Global) → Vec Active Global → Store → (spare : Vec Slot Global) → Machine
+back_in m caller slots few s spare =
+    record { tasks = m.tasks; operands = m.operands; frame = caller.frame; slots = slots; callers = few; flow = Normal; store = s; status = m.status; spare = spare }
 
-pub end_call_done : (p : ProgramTree) (n : ℕ) (r : Result Unit Stop) (old new : Machine) (caller : Active) (few : Vec Active Global) (s : Store) (value : Value) →
+pub end_call_done : (p : ProgramTree) (n : ℕ) (r : Result Unit Stop) (old new : Machine) (caller : Active) (slots : Vec Slot Global) (few : Vec Active Global) (s : Store) (spare : Vec Slot Global) (value : Value) →
+    slots ≡ caller.slots →
     old.callers.items ≡ few.items ++ caller ∷ [] → value ≡ value_or_none (value_at_end (old.frame.function == p.main) (flow_of old.flow)) →
     ((calls : List Opened) (m : Memory) → Holds old.store (opened_in old.frame ∷ calls) m → Holds s calls (closed old.frame.objects.first old.frame.objects.count m)) →
-    IsStep p n r (back_in old caller few s) new (give_run (Some value)) → IsStep p n r old new (handler_run p n end_call (flow_of old.flow))
-end_call_done p n r old new caller few s value popped is closes step =
-    moved p n r old (back_in old caller few s) new (handler_run p n end_call (flow_of old.flow)) (give_run (Some value)) refl
+    IsStep p n r (back_in old caller slots few s spare) new (give_run (Some value)) → IsStep p n r old new (handler_run p n end_call (flow_of old.flow))
+end_call_done p n r old new caller slots few s spare value same popped is closes step =
+    moved p n r old (back_in old caller slots few s spare) new (handler_run p n end_call (flow_of old.flow)) (give_run (Some value)) refl
     (λ m held.
     let first : ℕ = old.frame.objects.first in
     let counts : (old.frame.objects.count ≡ length (objects_of p.structs (variables_of p old.frame.function))) × AreCounted p (counted_by caller ∷ reverse (map counted_by few.items)) =
@@ -141,7 +143,8 @@ end_call_done p n r old new caller few s value popped is closes step =
       record { store = holds; counts = counts.1 },
       λ i.
           ap (λ fs. returned_to fs (reverse old.operands.items) (record { value = value_at_end (old.frame.function == p.main) (flow_of old.flow); memory = k; input = i })) (waits frame_of old.callers.items few.items caller popped)
-          ∙ ap (λ v. give_run (Some v) (config_of (back_in old caller few s) k i)) (sym is),
+          ∙ ap (λ q. give_run (Some (value_or_none (value_at_end (old.frame.function == p.main) (flow_of old.flow)))) (config_of (back_in old caller q few s spare) k i)) (sym same)
+          ∙ ap (λ v. give_run (Some v) (config_of (back_in old caller slots few s spare) k i)) (sym is),
     ))
     step
 

@@ -209,7 +209,8 @@ pub(crate) fn end_call<'a>(machine: &mut Machine<'a>, program: Program<'a>) -> R
     };
     machine.store.close(machine.frame.objects);
     machine.frame = caller.frame;
-    machine.spare = replace(&mut machine.slots, caller.slots);
+    let slots = replace(&mut machine.slots, caller.slots);
+    machine.spare = slots;
     machine.flow = Flow::Normal;
     give(machine, Some(value))
 }

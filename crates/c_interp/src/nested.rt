@@ -3,7 +3,7 @@
 ghost use Rattle.std.specs.Prelude.{◌≡◌, ◌∷◌, [], ℕ, Some};
 ghost use Rattle.val_core.specs.Answers.{then_on};
 ghost use Rattle.c_typed.specs.Typed.{ProgramTree, OptionalExpr, some_expr, declare_then, if_else};
-ghost use Rattle.c_typed.specs.StmtViews.{items_of, initial_of};
+ghost use Rattle.c_typed.specs.StmtViews.{items_of, initial_of, declaration_of};
 ghost use Rattle.c_interp_def.specs.declared.task.Flow.TheVariants.{Normal};
 ghost use Rattle.c_interp_def.specs.StmtTasks as stmt;
 ghost use Rattle.c_interp_def.specs.StmtTasks.{handler, of_expr, of_stmt, optional_tasks, turn_tasks, stmt_task_run, task_run};
@@ -219,7 +219,8 @@ fn variable_to<'a>(
 ) -> Result<(), Stop>
     requires laid { IsLaid program.typed.now program.layouts.now }
     requires normal { machine.old.flow ≡ Normal }
-    requires is { items_of items.now ≡ declare_then d.now (items_of rest.now) }
+    requires is { items_of items.now
+        ≡ declare_then (declaration_of d.now) (items_of rest.now) }
     ensures { IsStep program.entry.typed.now program.entry.bound result machine.old machine.new
         (stmt_task_run program.entry.typed.now program.entry.bound (stmt.run_items (items_of items.now))) }
 {

@@ -1,8 +1,8 @@
 -- Statements, items and turns, of which each is begun at once or becomes tasks.
 use Rattle.std.proofs.Common.{◌≡◌, ◌-◌, ◌∷◌, ◌++◌, ◌∙◌, suc, take, refl, sym, ap, ap₂, subst, arith}
 use Rattle.c_typed.specs.Typed as tree
-use Rattle.c_typed.specs.Typed.{StmtTree, stmt_then, DeclarationTree}
-use Rattle.c_typed.specs.StmtViews.{stmt_of, optional_of, items_of, elements_of, initial_of}
+use Rattle.c_typed.specs.Typed.{StmtTree, stmt_then}
+use Rattle.c_typed.specs.StmtViews.{stmt_of, optional_of, items_of, elements_of, initial_of, declaration_of}
 use Rattle.c_interp_def.specs.declared.task.Handler.TheVariants.{EndSwitch, Again}
 use Rattle.c_interp_def.specs.declared.task.StmtTask.TheVariants.{RunItems}
 use Rattle.c_interp_def.specs.declared.task.Slot.TheVariants.{Holds}
@@ -10,9 +10,7 @@ use Rattle.c_interp_def.specs.declared.task.Task.TheVariants.{OfStmt, Handler}
 use Rattle.c_interp_def.specs.StmtTasks as stmt
 use Rattle.c_interp_def.specs.StmtTasks.{of_stmt, handler, optional_tasks, turn_tasks, stmt_task_run}
 use Rattle.c_interp.specs.Machines.{config_of}
-use Rattle.c_interp_def.specs.Configurations.{variables_of}
-use Rattle.c_interp.specs.Steps.{IsStep, tasks_do, turns_do, is_value}
-use Rattle.std.specs.Prelude.{slice_get}
+use Rattle.c_interp.specs.Steps.{IsStep, tasks_do, turns_do}
 use Rattle.c_interp.proofs.Steps.{end-cut}
 use Rattle.c_interp.proofs.AtOnce.{put_then, if_step, if_put, turn_step, while_true, while_false, while_put, no_items_step, last_item, first_item, none-left, is-zero, picks-true, picks-false, truth-is}
 use Rattle.c_interp.proofs.Performed.{is_moved, moved_then, not_performed, performed_flow}
@@ -136,12 +134,8 @@ item_to-variable_to-requires-clause-is m c = ap items_of c.requires.is ∙ ap (�
 
 pub variable_to-returns-then-is_value : goal.variable_to-returns-then-is_value
 variable_to-returns-then-is_value m c =
-    let p = c.args.program.typed.now in
-    let n = c.args.program.bound in
-    let d = c.args.d.now in
-    declared_items p n c.declare_to.result c.args.machine.now c.declare_to.new.machine (items_of c.args.items.now) d _ (items_of c.args.rest.now) c.is_value.result c.requires.is
-    (ap (λ (x : DeclarationTree). x.initial) c.d.view_is) (c.is_value.ensures ∙ ap (λ (x : DeclarationTree). is_value (slice_get (variables_of p c.args.machine.now.frame.function) x.variable)) c.d.view_is)
-    c.if-is_value.true c.declare_to.ensures
+    declared_items c.args.program.typed.now c.args.program.bound c.declare_to.result c.args.machine.now c.declare_to.new.machine (items_of c.args.items.now) (declaration_of c.args.d.now) _ (items_of c.args.rest.now)
+    c.is_value.result c.requires.is refl c.is_value.ensures c.if-is_value.true c.declare_to.ensures
 
 pub variable_to-returns : goal.variable_to-returns
 variable_to-returns m c = c.expand_items.ensures c.args.program.bound
@@ -263,7 +257,7 @@ declare_to-returns-in-Value m c =
     let old = c.args.machine.now in
     let i = tree.initial_value c.in-Value.e in
     let is = items_of c.args.rest.now in
-    initial_step p n c.begin_to.result old c.begin_to.new.machine _ i is (sym c.initial.view_is ∙ ap initial_of c.in-Value.is)
+    initial_step p n c.begin_to.result old c.begin_to.new.machine _ i is (ap initial_of c.in-Value.is)
     (declared_step p n c.begin_to.result old c.begin_to.new.machine c.push.new.self c.push-2.new.self _ i is (c.len-count.ensures ∙ old.slots.ok.0) c.in_ok-push.ensures.items c.in_ok-push-2.ensures.items c.begin_to.ensures)
 
 pub declare_to-returns-in-Nothing : goal.declare_to-returns-in-Nothing
@@ -272,7 +266,7 @@ declare_to-returns-in-Nothing m c =
     let n = c.args.program.bound in
     let old = c.args.machine.now in
     let is = items_of c.args.rest.now in
-    initial_step p n c.items_to.result old c.items_to.new.machine _ tree.no_initial is (sym c.initial.view_is ∙ ap initial_of c.in-Nothing.is)
+    initial_step p n c.items_to.result old c.items_to.new.machine _ tree.no_initial is (ap initial_of c.in-Nothing.is)
     (declared_step p n c.items_to.result old c.items_to.new.machine c.push.new.self c.push-2.new.self _ tree.no_initial is (c.len-count.ensures ∙ old.slots.ok.0) c.in_ok-push.ensures.items c.in_ok-push-2.ensures.items
     c.items_to.ensures)
 
@@ -283,7 +277,7 @@ declare_to-returns-in-Elements m c =
     let old = c.args.machine.now in
     let i = tree.initial_elements (elements_of c.in-Elements.field-0.items) in
     let is = items_of c.args.rest.now in
-    initial_step p n c.items_to-in-Elements.result old c.items_to-in-Elements.new.machine _ i is (sym c.initial.view_is ∙ ap initial_of c.in-Elements.is)
+    initial_step p n c.items_to-in-Elements.result old c.items_to-in-Elements.new.machine _ i is (ap initial_of c.in-Elements.is)
     (declared_step p n c.items_to-in-Elements.result old c.items_to-in-Elements.new.machine c.push.new.self c.push-2.new.self _ i is (c.len-count.ensures ∙ old.slots.ok.0) c.in_ok-push.ensures.items
     c.in_ok-push-2.ensures.items c.items_to-in-Elements.ensures)
 
