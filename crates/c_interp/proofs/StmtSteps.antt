@@ -86,6 +86,9 @@ global_step p n r old new k v is step =
 abbrev pub with_slots : Machine → Vec Slot Global → Machine
 with_slots m s = record { tasks = m.tasks; operands = m.operands; frame = m.frame; slots = s; callers = m.callers; flow = m.flow; store = m.store; status = m.status; spare = m.spare }
 
+abbrev pub with_status : Machine → ℕ → Machine
+with_status m k = record { tasks = m.tasks; operands = m.operands; frame = m.frame; slots = m.slots; callers = m.callers; flow = m.flow; store = m.store; status = k; spare = m.spare }
+
 -- the end of the program
 pub exit_step : (p : ProgramTree) (n : ℕ) (old new : Machine) (few : Vec Value Global) (v : Value) (w : ℕ) → old.operands.items ≡ few.items ++ v ∷ [] → number v ≡ Some w → new.status ≡ w % 256 →
     IsStep p n (Err stop.Exit) old new (expr_task_run p n task.end_program)
