@@ -134,7 +134,7 @@ fn take_arguments<'a>(
     requires laid { IsLaid program.typed.now program.layouts.now }
     requires fit { first < 2 ^ 63 }
     requires few { length params.now < 2 ^ 32 }
-    requires blank { slots.entry.items ≡ [] }
+    requires blank { slots.items ≡ [] }
     ensures stored { (calls : List Opened) (m : Memory) → Holds store.old calls m →
         IsStored calls (params_stored (address_in first
         (object_sizes program.entry.typed.now (variables_of program.entry.typed.now function)))

@@ -1,4 +1,6 @@
 -- Expressions and arguments, of which each is given at once or becomes tasks.
+use Rattle.std.specs.Prelude.{Err}
+use Rattle.c_interp.specs.declared.stop.Stop.TheVariants.{Undefined}
 use Rattle.std.proofs.Common.{◌≡◌, ◌∙◌, length, refl, sym, ap, ap₂, subst}
 use Rattle.val_core.specs.Answers.{then_on}
 use Rattle.c_typed.specs.ExprViews.{form_of, place_form_of}
@@ -241,7 +243,7 @@ pass_first-returns-in-Some m c = c.pass_value.ensures
 
 pub pass_value-returns-in_default : goal.pass_value-returns-in_default
 pass_value-returns-in_default m c = λ n.
-    not_passed c.args.program.typed.now n _ c.args.machine.now c.args.machine.now (type_of c.args.e.now) c.args.e.now (exprs_of c.args.rest.now) c.args.v (c.requires.known n) c.in_default.ensures
+    not_passed c.args.program.typed.now n (Err Undefined) c.args.machine.now c.args.machine.now (type_of c.args.e.now) c.args.e.now (exprs_of c.args.rest.now) c.args.v (c.requires.known n) c.in_default.ensures
 
 pub pass_value-returns-then-depth-eq0 : goal.pass_value-returns-then-depth-eq0
 pass_value-returns-then-depth-eq0 m c = λ n.
