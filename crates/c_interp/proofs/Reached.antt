@@ -224,6 +224,7 @@ module _ (p : ProgramTree) (n : ℕ) (first : Port) (m : Machine) (few : Vec Tas
       by ending.Undefined why = ended reads writes ending.Undefined (stopped-by reads writes status s stop.Undefined why h)
       by ending.ReadFault why = ended reads writes ending.ReadFault (stopped-by reads writes status s stop.ReadFault why h)
       by ending.WriteFault why = ended reads writes ending.WriteFault (stopped-by reads writes status s stop.WriteFault why h)
+
 -- how a run ends where a step did not go on
 pub ended_by : {X : Type 0} (p : ProgramTree) (n : ℕ) (first : Port) (m : Machine) (few : Vec Task Global) (t : Task) (now last : Port) (reads writes : Type 0) (status : ℕ) (s : Stop) (q : Result Ending X) →
     IsReached p n first m now → m.tasks.items ≡ few.items ++ t ∷ [] →

@@ -214,6 +214,7 @@ module _ (p : ProgramTree) (n : ℕ) (r : Result Unit Stop) (old new : Machine) 
             ∙ ap (λ vs. expr_task_run p n (task.step_at i t) (with_operands x vs)) (sym (newest-one few.items many.items v pushed_more ∙ ap (λ vs. v ∷ vs) (newest-one old.operands.items few.items at pushed))),
       ))
       step
+
   given-used : (x : Configuration) (v : Value) → then_on (gives_value x (record { value = v; state = state_of x })) (task_run p n (of_expr task.use_it)) ≡ give_run (used_value v) x
   given-used x (Num w) = refl
   given-used x (At b o) = refl

@@ -620,9 +620,7 @@ fn assign_to<'a>(
 {
     match slot_of(machine, p) {
         Some(k) => {
-            machine
-                .tasks
-                .push(Task::OfExpr(ExprTask::StoreSlot(k, t)))?;
+            machine.tasks.push(Task::OfExpr(ExprTask::StoreSlot(k, t)))?;
             evaluate_to(machine, program, a, depth)
         }
         None => store_to(machine, program, t, p, a, depth),

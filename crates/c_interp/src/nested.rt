@@ -294,9 +294,7 @@ fn declare_to<'a>(
         (declared_do program.entry.typed.now program.entry.bound (initial_of initial.now) (items_of rest.now)) }
 {
     let count = machine.slots.len();
-    machine
-        .tasks
-        .push(Task::Handler(Handler::EndScope(count)))?;
+    machine.tasks.push(Task::Handler(Handler::EndScope(count)))?;
     machine.slots.push(Slot::Holds(Value::Bad))?;
     match initial {
         Initial::Value(e) => begin_to(machine, program, e, rest, depth),

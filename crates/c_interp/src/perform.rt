@@ -153,12 +153,7 @@ fn stored<'a>(
 }
 
 // `++` or `--`.
-fn stepped<'a>(
-    machine: &mut Machine<'a>,
-    t: &CType,
-    step: IncDec,
-    p: &TPlace,
-) -> Result<bool, Stop>
+fn stepped<'a>(machine: &mut Machine<'a>, t: &CType, step: IncDec, p: &TPlace) -> Result<bool, Stop>
     requires { machine.old.flow ≡ Normal }
     ensures { (q : ProgramTree) (n : ℕ) → IsPerformed q n result machine.old machine.new
         (tasks_do q n (optional_tasks (some_expr (expr t.now (inc_dec step p.now))))) }

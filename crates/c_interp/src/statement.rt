@@ -49,11 +49,7 @@ pub(crate) fn numbers<'a>(program: Program<'a>, function: u32) -> &'a [u32]
 }
 
 /// A statement that becomes tasks.
-pub(crate) fn expand<'a>(
-    machine: &mut Machine<'a>,
-    bound: u64,
-    a: &'a TStmt,
-) -> Result<(), Stop>
+pub(crate) fn expand<'a>(machine: &mut Machine<'a>, bound: u64, a: &'a TStmt) -> Result<(), Stop>
     requires { machine.old.flow ≡ Normal }
     ensures { (p : ProgramTree) → IsStep p bound result machine.old machine.new
         (stmt_task_run p bound (stmt.run_stmt a.now)) }

@@ -25,7 +25,6 @@ use crate::expression::{
 use crate::machine::{Machine, Program};
 use crate::nested::{run_items, run_stmt, run_turns};
 use crate::part::{begin_elements, drop_each, run_groups};
-
 use crate::statement::{branch, jump, return_it, select};
 use crate::stop::Stop;
 use crate::streams::{end_program, read_byte, write_byte};
