@@ -49,7 +49,7 @@ use Rattle.c_interp.proofs.Statements.{asked-while}
 end-then : (a b : Answer Reached) (next : Reached → Answer Reached) → IsEnd a b → IsEnd (then_on a next) b
 end-then a b next h rest j o = ap (λ c. heard_as j (before o c)) (then_associates a next rest) ∙ h (λ r. then_on (next r) rest) j o
 
-stopped-then : (status : ℕ) (s : Stop) (a : Answer Reached) (next : Reached → Answer Reached) → IsStopped status s a → IsStopped status s (then_on a next)
+pub stopped-then : (status : ℕ) (s : Stop) (a : Answer Reached) (next : Reached → Answer Reached) → IsStopped status s a → IsStopped status s (then_on a next)
 stopped-then status stop.Exit a next h = end-then a (Exited [] status) next h
 stopped-then status stop.Cut a next h = end-then a (Cut []) next h
 stopped-then status stop.Undefined a next h = end-then a (Undefined []) next h

@@ -37,7 +37,7 @@ use Rattle.c_interp.specs.Steps.{IsStep, IsMoved, IsPerformed, tasks_do, set_run
 use Rattle.c_interp.proofs.Steps.{with_store, calls_in, moved, done_at_once, undefined_step}
 use Rattle.c_interp.proofs.StmtSteps.{with_slots}
 use Rattle.c_interp.proofs.Operators.{step-sets}
-use Rattle.c_interp.proofs.AtOnce.{written-moves, stored-at}
+use Rattle.c_interp.proofs.AtOnce.{stopped-then, written-moves, stored-at}
 
 -- ---- what is done at once, and then another task
 
@@ -61,6 +61,10 @@ pub not_performed : (p : ProgramTree) (n : ℕ) (d : Bool) (r : Result Unit Stop
     IsStep p n r mid new run' → IsStep p n r old new run'
 not_performed p n true r old mid new run run' e h step = absurd (false≢true (sym e))
 not_performed p n false r old mid new run run' e h step = subst (λ (z : Machine). IsStep p n r z new run') h step
+
+-- the run ends before what comes then
+pub stopped_then : (p : ProgramTree) (n : ℕ) (s : Stop) (old new : Machine) (run : Configuration → Answer Reached) (next : Reached → Answer Reached) → IsStep p n (Err s) old new run → IsStep p n (Err s) old new (λ x. then_on (run x) next)
+stopped_then p n s old new run next step m held i = stopped-then new.status s (run (config_of old m i)) next (step m held i)
 
 -- no jump is on its way
 pub performed_flow : (p : ProgramTree) (n : ℕ) (d : Bool) (old new : Machine) (run : Configuration → Answer Reached) → IsPerformed p n (Ok d) old new run → old.flow ≡ Normal → new.flow ≡ Normal

@@ -272,9 +272,26 @@ fn value_to<'a>(
         (tasks_do program.entry.typed.now program.entry.bound
         (of_stmt (stmt.run_items (items_of rest.now)) ∷ optional_tasks (some_expr e.now))) }
 {
-    if performed(machine, program, e)? {
-        return items_to(machine, program, rest, depth);
+    match performed(machine, program, e) {
+        Ok(true) => items_to(machine, program, rest, depth),
+        Ok(false) => value_later(machine, program, e, rest),
+        Err(stop) => Err(stop),
     }
+}
+
+// The same, where the expression is evaluated first.
+fn value_later<'a>(
+    machine: &mut Machine<'a>,
+    program: Program<'a>,
+    e: &'a TExpr,
+    rest: &'a [Item],
+) -> Result<(), Stop>
+    requires laid { IsLaid program.typed.now program.layouts.now }
+    requires normal { machine.old.flow ≡ Normal }
+    ensures { (n : ℕ) → IsStep program.entry.typed.now n result machine.old machine.new
+        (tasks_do program.entry.typed.now n
+        (of_stmt (stmt.run_items (items_of rest.now)) ∷ optional_tasks (some_expr e.now))) }
+{
     machine.tasks.push(Task::OfStmt(StmtTask::RunItems(rest)))?;
     evaluate_and_drop(machine, program, e)
 }

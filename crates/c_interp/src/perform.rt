@@ -32,10 +32,11 @@ pub(crate) fn perform<'a>(
     ensures { (n : ℕ) → IsStep program.entry.typed.now n result machine.old machine.new
         (tasks_do program.entry.typed.now n (optional_tasks (some_expr e.now))) }
 {
-    if performed(machine, program, e)? {
-        return Ok(());
+    match performed(machine, program, e) {
+        Ok(true) => Ok(()),
+        Ok(false) => evaluate_and_drop(machine, program, e),
+        Err(stop) => Err(stop),
     }
-    evaluate_and_drop(machine, program, e)
 }
 
 /// Whether an expression whose value is dropped assigns what is known at once; that is then done,

@@ -181,9 +181,27 @@ fn step_then<'a>(
         (tasks_do program.entry.typed.now program.entry.bound
         (of_stmt (stmt.run_turns turns a.now) ∷ optional_tasks (some_expr e.now))) }
 {
-    if performed(machine, program, e)? {
-        return run_turns(machine, program, turns, a);
+    match performed(machine, program, e) {
+        Ok(true) => run_turns(machine, program, turns, a),
+        Ok(false) => step_later(machine, program, turns, a, e),
+        Err(stop) => Err(stop),
     }
+}
+
+// The same, where the step is evaluated first.
+fn step_later<'a>(
+    machine: &mut Machine<'a>,
+    program: Program<'a>,
+    turns: u64,
+    a: &'a TStmt,
+    e: &'a TExpr,
+) -> Result<(), Stop>
+    requires laid { IsLaid program.typed.now program.layouts.now }
+    requires normal { machine.old.flow ≡ Normal }
+    ensures { (n : ℕ) → IsStep program.entry.typed.now n result machine.old machine.new
+        (tasks_do program.entry.typed.now n
+        (of_stmt (stmt.run_turns turns a.now) ∷ optional_tasks (some_expr e.now))) }
+{
     machine
         .tasks
         .push(Task::OfStmt(StmtTask::OnStmt(Stage::RunTurns(turns), a)))?;

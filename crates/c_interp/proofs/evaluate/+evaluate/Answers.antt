@@ -98,10 +98,12 @@ unknown_to-returns-in-LogicalOr m c = λ n.
     whole e (type_of e) (logical_or a b) refl (sym (ap form_in c.e.view_is) ∙ ap form_of c.in-LogicalOr.is ∙ ap₂ logical_or (sym c.deref-in-LogicalOr.ensures) (sym c.deref-in-LogicalOr-2.ensures)) in
     subst (λ (z : ExprTree). IsStep p n c.or_to.result c.args.machine.now c.or_to.new.machine (expr_task_run p n (task.evaluate z))) (sym here) (c.or_to.ensures (type_of e) n)
 
-pub unknown_to-read_to-requires-clause-is : goal.unknown_to-read_to-requires-clause-is
-unknown_to-read_to-requires-clause-is m c =
-    let t = c.deref-in-Read.result.now in
-    whole c.args.e.now t (read c.in-Read.p) (c.deref-in-Read.ensures ∙ ap type_of c.e.view_is) (sym (ap form_in c.e.view_is) ∙ ap form_of c.in-Read.is)
+pub unknown_to-read_to-requires : goal.unknown_to-read_to-requires
+unknown_to-read_to-requires m c = record {
+  laid = c.requires.laid;
+  normal = c.requires.normal;
+  is = whole c.args.e.now c.deref-in-Read.result.now (read c.in-Read.p) (c.deref-in-Read.ensures ∙ ap type_of c.e.view_is) (sym (ap form_in c.e.view_is) ∙ ap form_of c.in-Read.is);
+}
 
 pub unknown_to-returns-in-Assign : goal.unknown_to-returns-in-Assign
 unknown_to-returns-in-Assign m c = λ n.

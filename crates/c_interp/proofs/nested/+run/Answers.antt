@@ -1,5 +1,5 @@
 -- Statements, items and turns, of which each is begun at once or becomes tasks.
-use Rattle.std.proofs.Common.{◌≡◌, ◌-◌, ◌∷◌, ◌++◌, ◌∙◌, suc, take, refl, sym, ap, ap₂, subst, arith}
+use Rattle.std.proofs.Common.{[], ◌≡◌, ◌-◌, ◌∷◌, ◌++◌, ◌∙◌, suc, take, refl, sym, ap, ap₂, subst, arith}
 use Rattle.c_typed.specs.Typed as tree
 use Rattle.c_typed.specs.Typed.{StmtTree, stmt_then}
 use Rattle.c_typed.specs.StmtViews.{stmt_of, optional_of, items_of, elements_of, initial_of, declaration_of}
@@ -13,7 +13,7 @@ use Rattle.c_interp.specs.Machines.{config_of}
 use Rattle.c_interp.specs.Steps.{IsStep, tasks_do, turns_do}
 use Rattle.c_interp.proofs.Steps.{end-cut}
 use Rattle.c_interp.proofs.AtOnce.{put_then, if_step, if_put, turn_step, while_true, while_false, while_put, no_items_step, last_item, first_item, none-left, is-zero, picks-true, picks-false, truth-is}
-use Rattle.c_interp.proofs.Performed.{is_moved, moved_then, not_performed, performed_flow}
+use Rattle.c_interp.proofs.Performed.{is_moved, moved_then, not_performed, performed_flow, stopped_then}
 use Rattle.c_interp.proofs.Items.{expanded_step, value_items, declared_items, declared_step, initial_step, begun_step, not_begun, turns_step}
 use Rattle.c_interp.proofs.nested.+run.Goals as goal
 
@@ -38,9 +38,12 @@ run_to-returns-in-Block m c =
     expanded_step p n c.items_to.result c.args.machine.now c.items_to.new.machine c.args.a.now (tree.block is) (stmt_task_run p n (stmt.run_items is))
     (sym c.a.view_is ∙ ap stmt_of c.in-Block.is ∙ ap (λ l. tree.block (items_of l)) (sym c.deref.ensures.value)) (λ x. refl) c.items_to.ensures
 
-pub run_to-choose_to-requires-clause-is : goal.run_to-choose_to-requires-clause-is
-run_to-choose_to-requires-clause-is m c =
-    sym c.a.view_is ∙ ap stmt_of c.in-IfElse.is ∙ ap₂ (λ s t. tree.if_else c.in-IfElse.e s t) (sym c.deref-in-IfElse.ensures) (sym c.deref-in-IfElse-2.ensures)
+pub run_to-choose_to-requires : goal.run_to-choose_to-requires
+run_to-choose_to-requires m c = record {
+  laid = c.requires.laid;
+  normal = c.requires.normal;
+  is = sym c.a.view_is ∙ ap stmt_of c.in-IfElse.is ∙ ap₂ (λ s t. tree.if_else c.in-IfElse.e s t) (sym c.deref-in-IfElse.ensures) (sym c.deref-in-IfElse-2.ensures);
+}
 
 pub run_to-returns-in-Loop : goal.run_to-returns-in-Loop
 run_to-returns-in-Loop m c =
@@ -129,8 +132,12 @@ item_to-returns-in-Statement m c =
     let here : items_of c.args.items.now ≡ stmt_then a (items_of rest) = ap items_of c.requires.is ∙ ap (λ i. items_of (i ∷ rest)) c.in-Statement.is in
     first_item p n c.first_to.result c.args.machine.now c.first_to.new.machine (items_of c.args.items.now) a (items_of rest) here c.first_to.ensures
 
-pub item_to-variable_to-requires-clause-is : goal.item_to-variable_to-requires-clause-is
-item_to-variable_to-requires-clause-is m c = ap items_of c.requires.is ∙ ap (λ i. items_of (i ∷ c.args.rest.now)) c.in-Variable.is
+pub item_to-variable_to-requires : goal.item_to-variable_to-requires
+item_to-variable_to-requires m c = record {
+  laid = c.requires.laid;
+  normal = c.requires.normal;
+  is = ap items_of c.requires.is ∙ ap (λ i. items_of (i ∷ c.args.rest.now)) c.in-Variable.is;
+}
 
 pub variable_to-returns-then-is_value : goal.variable_to-returns-then-is_value
 variable_to-returns-then-is_value m c =
@@ -230,25 +237,37 @@ turn_to-returns m c =
 
 -- ---- what is done at once, and then the items after it
 
-pub value_to-returns-then-branch : goal.value_to-returns-then-branch
-value_to-returns-then-branch m c =
+pub value_to-items_to-requires : goal.value_to-items_to-requires
+value_to-items_to-requires m c = record {
+  laid = c.requires.laid;
+  normal = performed_flow c.args.program.typed.now c.args.program.bound c.in-Ok-true.field-0 c.args.machine.now c.performed.new.machine _ (c.in-Ok-true.ensures c.args.program.bound) c.requires.normal;
+}
+
+pub value_to-returns-in-Ok-true : goal.value_to-returns-in-Ok-true
+value_to-returns-in-Ok-true m c =
     let p = c.args.program.typed.now in
     let n = c.args.program.bound in
     let mid = c.performed.new.machine in
     let run = tasks_do p n (optional_tasks (tree.some_expr c.args.e.now)) in
     moved_then p n c.items_to.result c.args.machine.now mid c.items_to.new.machine run (stmt.run_items (items_of c.args.rest.now))
-    (is_moved p n c.in_ok-performed.field-0 c.args.machine.now mid run c.if-branch.true (c.in_ok-performed.ensures n)) c.items_to.ensures
+    (is_moved p n c.in-Ok-true.field-0 c.args.machine.now mid run c.in-Ok-true.field-0-test (c.in-Ok-true.ensures n)) c.items_to.ensures
 
-pub value_to-returns : goal.value_to-returns
-value_to-returns m c =
+pub value_to-value_later-requires-clause-normal : goal.value_to-value_later-requires-clause-normal
+value_to-value_later-requires-clause-normal m c =
+    performed_flow c.args.program.typed.now c.args.program.bound c.in-Ok-false.field-0 c.args.machine.now c.performed.new.machine _ (c.in-Ok-false.ensures c.args.program.bound) c.requires.normal
+
+pub value_to-returns-in-Ok-false : goal.value_to-returns-in-Ok-false
+value_to-returns-in-Ok-false m c =
     let p = c.args.program.typed.now in
     let n = c.args.program.bound in
-    let mid = c.performed.new.machine in
-    let r = c.evaluate_and_drop.result in
-    let new = c.evaluate_and_drop.new.machine in
     let run = tasks_do p n (optional_tasks (tree.some_expr c.args.e.now)) in
-    not_performed p n c.in_ok-performed.field-0 r c.args.machine.now mid new run _ c.if-branch.false (c.in_ok-performed.ensures n)
-    (put_then p n r mid new c.push.new.self (OfStmt (RunItems c.args.rest)) run c.in_ok-push.ensures.items (c.evaluate_and_drop.ensures n))
+    not_performed p n c.in-Ok-false.field-0 c.value_later.result c.args.machine.now c.performed.new.machine c.value_later.new.machine run _ c.in-Ok-false.field-0-test (c.in-Ok-false.ensures n) (c.value_later.ensures n)
+
+pub value_to-returns-in-Err : goal.value_to-returns-in-Err
+value_to-returns-in-Err m c =
+    let p = c.args.program.typed.now in
+    let n = c.args.program.bound in
+    stopped_then p n c.in-Err.stop c.args.machine.now c.performed.new.machine (tasks_do p n (optional_tasks (tree.some_expr c.args.e.now))) _ (c.in-Err.ensures n)
 
 pub declare_to-returns-in-Value : goal.declare_to-returns-in-Value
 declare_to-returns-in-Value m c =
@@ -300,11 +319,3 @@ begin_known-returns m c =
 
 pub begin_to-returns-in-None : goal.begin_to-returns-in-None
 begin_to-returns-in-None m c = c.begin_later.ensures c.args.program.bound
-
-pub value_to-items_to-requires-clause-normal : goal.value_to-items_to-requires-clause-normal
-value_to-items_to-requires-clause-normal m c =
-    performed_flow c.args.program.typed.now c.args.program.bound c.in_ok-performed.field-0 c.args.machine.now c.performed.new.machine _ (c.in_ok-performed.ensures c.args.program.bound) c.requires.normal
-
-pub value_to-evaluate_and_drop-requires-clause-normal : goal.value_to-evaluate_and_drop-requires-clause-normal
-value_to-evaluate_and_drop-requires-clause-normal m c =
-    performed_flow c.args.program.typed.now c.args.program.bound c.in_ok-performed.field-0 c.args.machine.now c.performed.new.machine _ (c.in_ok-performed.ensures c.args.program.bound) c.requires.normal
