@@ -1,7 +1,7 @@
 -- Expressions and arguments, of which each is given at once or becomes tasks.
 use Rattle.std.specs.Prelude.{Err}
 use Rattle.c_interp.specs.declared.stop.Stop.TheVariants.{Undefined}
-use Rattle.std.proofs.Common.{◌≡◌, ◌∙◌, length, refl, sym, ap, ap₂, subst}
+use Rattle.std.proofs.Common.{rules, ◌≡◌, ◌∙◌, length, refl, sym, ap, ap₂, subst}
 use Rattle.val_core.specs.Answers.{then_on}
 use Rattle.c_typed.specs.ExprViews.{form_of, place_form_of}
 use Rattle.c_typed.specs.Typed.{ExprTree, FormTree, expr, read, unary, binary, logical_and, logical_or, conditional, assign, inc_dec, call, at, member, exprs_of}

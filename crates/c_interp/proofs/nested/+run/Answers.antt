@@ -1,5 +1,5 @@
 -- Statements, items and turns, of which each is begun at once or becomes tasks.
-use Rattle.std.proofs.Common.{[], ◌≡◌, ◌-◌, ◌∷◌, ◌++◌, ◌∙◌, suc, take, refl, sym, ap, ap₂, subst, arith}
+use Rattle.std.proofs.Common.{rules, [], ◌≡◌, ◌-◌, ◌∷◌, ◌++◌, ◌∙◌, suc, take, refl, sym, ap, ap₂, subst, arith}
 use Rattle.c_typed.specs.Typed as tree
 use Rattle.c_typed.specs.Typed.{StmtTree, stmt_then}
 use Rattle.c_typed.specs.StmtViews.{stmt_of, optional_of, items_of, elements_of, initial_of, declaration_of}
