@@ -99,7 +99,7 @@ unknown_to-returns-in-LogicalOr m c = λ n.
     subst (λ (z : ExprTree). IsStep p n c.or_to.result c.args.machine.now c.or_to.new.machine (expr_task_run p n (task.evaluate z))) (sym here) (c.or_to.ensures (type_of e) n)
 
 pub unknown_to-read_to-requires : goal.unknown_to-read_to-requires
-unknown_to-read_to-requires m c = (search rules, c.requires.laid, c.requires.normal, whole c.args.e.now c.deref-in-Read.result.now (read c.in-Read.p) (c.deref-in-Read.ensures ∙ ap type_of c.e.view_is) (sym (ap form_in c.e.view_is) ∙ ap form_of c.in-Read.is))
+unknown_to-read_to-requires m c = (search rules, (c.requires.laid, (c.requires.normal, whole c.args.e.now c.deref-in-Read.result.now (read c.in-Read.p) (c.deref-in-Read.ensures ∙ ap type_of c.e.view_is) (sym (ap form_in c.e.view_is) ∙ ap form_of c.in-Read.is))))
 
 pub unknown_to-returns-in-Assign : goal.unknown_to-returns-in-Assign
 unknown_to-returns-in-Assign m c = λ n.

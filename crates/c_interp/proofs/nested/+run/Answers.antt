@@ -39,7 +39,7 @@ run_to-returns-in-Block m c =
     (sym c.a.view_is ∙ ap stmt_of c.in-Block.is ∙ ap (λ l. tree.block (items_of l)) (sym c.deref.ensures.value)) (λ x. refl) c.items_to.ensures
 
 pub run_to-choose_to-requires : goal.run_to-choose_to-requires
-run_to-choose_to-requires m c = (search rules, c.requires.laid, c.requires.normal, sym c.a.view_is ∙ ap stmt_of c.in-IfElse.is ∙ ap₂ (λ s t. tree.if_else c.in-IfElse.e s t) (sym c.deref-in-IfElse.ensures) (sym c.deref-in-IfElse-2.ensures))
+run_to-choose_to-requires m c = (search rules, (c.requires.laid, (c.requires.normal, sym c.a.view_is ∙ ap stmt_of c.in-IfElse.is ∙ ap₂ (λ s t. tree.if_else c.in-IfElse.e s t) (sym c.deref-in-IfElse.ensures) (sym c.deref-in-IfElse-2.ensures))))
 
 pub run_to-returns-in-Loop : goal.run_to-returns-in-Loop
 run_to-returns-in-Loop m c =
@@ -129,7 +129,7 @@ item_to-returns-in-Statement m c =
     first_item p n c.first_to.result c.args.machine.now c.first_to.new.machine (items_of c.args.items.now) a (items_of rest) here c.first_to.ensures
 
 pub item_to-variable_to-requires : goal.item_to-variable_to-requires
-item_to-variable_to-requires m c = (search rules, c.requires.laid, c.requires.normal, ap items_of c.requires.is ∙ ap (λ i. items_of (i ∷ c.args.rest.now)) c.in-Variable.is)
+item_to-variable_to-requires m c = (search rules, (c.requires.laid, (c.requires.normal, ap items_of c.requires.is ∙ ap (λ i. items_of (i ∷ c.args.rest.now)) c.in-Variable.is)))
 
 pub variable_to-returns-then-is_value : goal.variable_to-returns-then-is_value
 variable_to-returns-then-is_value m c =
@@ -230,7 +230,7 @@ turn_to-returns m c =
 -- ---- what is done at once, and then the items after it
 
 pub value_to-items_to-requires : goal.value_to-items_to-requires
-value_to-items_to-requires m c = (search rules, c.requires.laid, performed_flow c.args.program.typed.now c.args.program.bound c.in-Ok-true.field-0 c.args.machine.now c.performed.new.machine _ (c.in-Ok-true.ensures c.args.program.bound) c.requires.normal)
+value_to-items_to-requires m c = (search rules, (c.requires.laid, performed_flow c.args.program.typed.now c.args.program.bound c.in-Ok-true.field-0 c.args.machine.now c.performed.new.machine _ (c.in-Ok-true.ensures c.args.program.bound) c.requires.normal))
 
 pub value_to-returns-in-Ok-true : goal.value_to-returns-in-Ok-true
 value_to-returns-in-Ok-true m c =
