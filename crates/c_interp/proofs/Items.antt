@@ -1,24 +1,22 @@
 -- Statements that are begun at once, with those that stand in them.
 use Rattle.std.proofs.Common.{Vec, Global, ◌≡◌, ℕ, not, Bool, true, false, if◌then◌else◌, List, [], ◌∷◌, ◌++◌, length, take, ◌-◌, refl, sym, ap, ◌∙◌}
-use Rattle.std.specs.Prelude.{Option, None, Some, slice_get, Result, Ok, Err}
+use Rattle.std.specs.Prelude.{Option, None, Some, slice_get, Result, Err}
 use Rattle.std.proofs.lemmas.Bool.{false≢true}
 use Rattle.std.proofs.lemmas.List.{map-append, take-map, length-map}
 use Rattle.val_core.specs.declared.values.Value.{Value}
 use Rattle.val_core.specs.declared.values.Value.TheVariants.{Num, At, Bad}
 use Rattle.val_core.specs.Memory.{Memory}
 use Rattle.val_core.specs.Answers.{Answer, Undefined, then_on, on_defined}
-use Rattle.c_typed.specs.declared.statement.Declaration.{Declaration}
 use Rattle.c_typed.specs.Typed as tree
-use Rattle.c_typed.specs.Typed.{ExprTree, some_expr, InitialTree, StmtTree, ItemTrees, declare_then, OptionalExpr, no_expr, VariableTree, DeclarationTree, ProgramTree}
+use Rattle.c_typed.specs.Typed.{ExprTree, some_expr, InitialTree, StmtTree, ItemTrees, declare_then, VariableTree, DeclarationTree, ProgramTree}
 use Rattle.c_typed.specs.Objects.{object_number}
 use Rattle.c_mean.specs.State.{holds, object, used}
 use Rattle.c_mean.specs.Statements.{normal, newest_written}
 use Rattle.c_interp_value.specs.Operators.{used_value}
 use Rattle.c_interp_def.specs.Configurations.{Configuration, Reached, reaches, state_of, gives_value, goes_on_at, variables_of}
 use Rattle.c_interp_def.specs.ExprTasks as task
-use Rattle.c_interp_def.specs.ExprTasks.{expr_task_run}
 use Rattle.c_interp_def.specs.StmtTasks as stmt
-use Rattle.c_interp_def.specs.StmtTasks.{Task, of_expr, of_stmt, handler, entered, optional_tasks, stmt_tasks, initial_tasks, object_tasks, value_tasks, items_tasks, turn_tasks, turns_tasks, again_tasks, stmt_task_run, task_run, tasks_run}
+use Rattle.c_interp_def.specs.StmtTasks.{Task, of_expr, of_stmt, handler, entered, optional_tasks, stmt_tasks, initial_tasks, object_tasks, value_tasks, turn_tasks, turns_tasks, stmt_task_run, task_run, tasks_run}
 use Rattle.c_interp_def.specs.Laws.{normally, IsLoop, tasks_or_cut}
 use Rattle.c_interp_def.proofs.StmtLaws.{tasks-append, statement-expands, items-expand, turns-expand}
 use Rattle.c_interp_def.specs.declared.task.Task.{Task as Left}
@@ -26,7 +24,7 @@ use Rattle.c_interp_def.specs.declared.task.Task.TheVariants.{Handler}
 use Rattle.c_interp_def.specs.declared.task.Handler.TheVariants.{EndScope}
 use Rattle.c_interp_def.specs.declared.task.Slot.{Slot}
 use Rattle.c_interp_def.specs.declared.task.Slot.TheVariants.{Holds as HeldSlot}
-use Rattle.c_interp_expand.specs.TaskViews.{task_of, tasks_of, slot_of, slots_of}
+use Rattle.c_interp_expand.specs.TaskViews.{slot_of, slots_of}
 use Rattle.c_interp_answer.specs.Answered.{IsValue}
 use Rattle.c_interp.specs.declared.stop.Stop.{Stop}
 use Rattle.c_interp.specs.declared.stop.Stop.TheVariants as stop

@@ -1,5 +1,5 @@
 -- Assignments of which the value is dropped, where they are done at once, and what comes after them.
-use Rattle.std.proofs.Common.{Vec, Global, ◌≡◌, ℕ, Bool, true, false, if◌then◌else◌, List, [], ◌∷◌, refl, sym, ap, ◌∙◌, subst}
+use Rattle.std.proofs.Common.{Vec, Global, ◌≡◌, ℕ, Bool, true, false, if◌then◌else◌, List, [], refl, sym, ap, ◌∙◌, subst}
 use Rattle.std.specs.Prelude.{Option, None, Some, slice_get, slice_set, Result, Ok, Err}
 use Rattle.std.proofs.lemmas.Bool.{false≢true}
 use Rattle.val_core.specs.declared.values.Value.{Value}
@@ -13,7 +13,7 @@ use Rattle.c_typed.specs.Typed.{ExprTree, expr, assign, inc_dec, some_expr, Plac
 use Rattle.c_typed.specs.Objects.{access_width}
 use Rattle.c_mean.specs.State as state
 use Rattle.c_mean.specs.State.{Slot, holds, object, State, Valued, gives, used, converted}
-use Rattle.c_mean.specs.Expressions.{Context, in_slot, at_address, slot_get, slot_value, spot_read, spot_written, stepped, expr_run}
+use Rattle.c_mean.specs.Expressions.{Context, in_slot, slot_value, spot_read, spot_written, stepped, expr_run}
 use Rattle.c_mean.specs.Statements.{normal}
 use Rattle.c_interp_store.specs.declared.store.Store.{Store}
 use Rattle.c_interp_store.specs.Holding.{Opened, Holds, IsChanged}

@@ -29,13 +29,13 @@ use Rattle.c_interp_def.specs.declared.task.Slot.{Slot}
 use Rattle.c_interp_def.specs.declared.task.Slot.TheVariants.{Holds as HeldSlot}
 use Rattle.c_interp_def.specs.declared.task.Flow.{Flow}
 use Rattle.c_interp_def.specs.declared.task.Flow.TheVariants.{Normal, Broke, Continued, Returned as JumpedBack}
-use Rattle.c_interp_expand.specs.TaskViews.{tasks_of, slot_of, slots_of, flow_of}
+use Rattle.c_interp_expand.specs.TaskViews.{slot_of, slots_of, flow_of}
 use Rattle.c_interp.specs.declared.stop.Stop.{Stop}
 use Rattle.c_interp.specs.declared.stop.Stop.TheVariants as stop
 use Rattle.c_interp.specs.declared.machine.Machine.{Machine}
 use Rattle.c_interp.specs.Machines.{config_of, IsHeld}
 use Rattle.c_interp.specs.Steps.{IsStep, nothing_run, tasks_do, give_run, choose_run, store_run, with_frame_slots, number, slot_read, slot_address, slot_begun, asked_do, IsSomeHeld, IsStored}
-use Rattle.c_interp.proofs.Steps.{with_ops, with_tasks, with_store, calls_in, newest-one, done_at_once, done_by, undefined_step, nothing_step, same_step, changed_step, end-exit}
+use Rattle.c_interp.proofs.Steps.{with_ops, with_store, calls_in, newest-one, done_at_once, undefined_step, nothing_step, same_step, changed_step, end-exit}
 use Rattle.c_interp.proofs.ExprSteps.{one, here, decided}
 use Rattle.c_interp.proofs.Operators.{slot-gives, address-gives}
 use Rattle.c_interp.proofs.Statements.{entered-is, store-begins, zeros-are}
@@ -183,14 +183,6 @@ switch-stays p n Normal x h = refl
 switch-stays p n Broke x h = absurd (h refl)
 switch-stays p n Continued x h = refl
 switch-stays p n (JumpedBack v) x h = refl
-
--- a loop goes on
-pub on_step : (p : ProgramTree) (n : ℕ) (u : Unit) (old : Machine) (many : Vec Left Global) (ts : List stmt.Task) → tasks_of many.items ≡ tasks_of old.tasks.items ++ ts →
-    IsStep p n (Ok u) old (with_flow (with_tasks old many) Normal) (tasks_do p n ts)
-on_step p n u old many ts put m held =
-    let last : Machine = with_flow (with_tasks old many) Normal in
-    let held' : IsHeld p last m = record { store = held.store; counts = held.counts } in
-    done_by p n old last (λ i. tasks_do p n ts (config_of old m i)) ts m put held' (λ i. refl)
 
 -- ---- scopes
 

@@ -1,6 +1,6 @@
 -- Expressions and places that are not known at once: each becomes the task of its operator, and its operands come first.
 use Rattle.std.proofs.Common.{Vec, Global, ◌≡◌, ℕ, Bool, true, false, if◌then◌else◌, List, [], ◌∷◌, ◌++◌, refl, sym, ap, ◌∙◌}
-use Rattle.std.specs.Prelude.{Option, None, Some, slice_get, slice_set, Result, Ok, Err}
+use Rattle.std.specs.Prelude.{Option, None, Some, slice_get, slice_set, Result, Err}
 use Rattle.val_core.specs.declared.values.Value.{Value}
 use Rattle.val_core.specs.declared.values.Value.TheVariants.{Num, At, Bad}
 use Rattle.val_core.specs.Memory.{Memory, load}
@@ -12,12 +12,11 @@ use Rattle.c_typed.specs.Typed as tree
 use Rattle.c_typed.specs.Typed.{ExprTree, expr, ExprTrees, PlaceTree, place, PlaceFormTree, ProgramTree}
 use Rattle.c_typed.specs.WellTyped.{type_of}
 use Rattle.c_typed.specs.Objects.{access_width}
-use Rattle.c_mean.specs.State.{Slot, holds, truth, gives}
-use Rattle.c_mean.specs.Expressions.{Context, at_address, address_of, given_word, branched, expr_run}
-use Rattle.c_mean.specs.Statements.{normal}
+use Rattle.c_mean.specs.State.{holds, truth}
+use Rattle.c_mean.specs.Expressions.{address_of, given_word, branched, expr_run}
 use Rattle.c_interp_store.specs.Holding.{Opened, Holds}
 use Rattle.c_interp_value.specs.Operators.{used_value}
-use Rattle.c_interp_def.specs.Configurations.{Configuration, Reached, reaches, state_of, gives_value, with_operands}
+use Rattle.c_interp_def.specs.Configurations.{Configuration, Reached, state_of, gives_value, with_operands}
 use Rattle.c_interp_def.specs.ExprTasks as task
 use Rattle.c_interp_def.specs.ExprTasks.{context, value_slot, unary_tasks, read_tasks, assign_tasks, step_tasks, expr_task_run}
 use Rattle.c_interp_def.specs.StmtTasks.{Task, of_expr, task_run, tasks_run}
@@ -32,7 +31,7 @@ use Rattle.c_interp.specs.declared.stop.Stop.TheVariants as stop
 use Rattle.c_interp.specs.declared.machine.Machine.{Machine}
 use Rattle.c_interp.specs.Machines.{config_of, IsHeld}
 use Rattle.c_interp.specs.Known.{Knows}
-use Rattle.c_interp.specs.Steps.{IsStep, tasks_do, give_run, tested_run, passed_run, passed_then, with_frame_slots, loaded_value, slot_read}
+use Rattle.c_interp.specs.Steps.{IsStep, tasks_do, give_run, tested_run, passed_then, with_frame_slots, loaded_value, slot_read}
 use Rattle.c_interp.proofs.Steps.{calls_in, with_ops, newest-one, moved, same_step, undefined_step}
 use Rattle.c_interp.proofs.StmtSteps.{with_slots}
 use Rattle.c_interp.proofs.Operators.{tested, slot-gives, read-gives}

@@ -1,16 +1,16 @@
 //! Tasks of statements (ISO/IEC 9899:2011, 6.8).
 
-ghost use Rattle.std.specs.Prelude.{◌≡◌, ◌≤◌, ℕ, [], ◌∷◌, length, drop};
-ghost use Rattle.c_typed.specs.Typed.{ProgramTree, if_else, return_value};
+ghost use Rattle.std.specs.Prelude.{◌≡◌, ◌≤◌, ℕ, [], length, drop};
+ghost use Rattle.c_typed.specs.Typed.{ProgramTree, return_value};
 ghost use Rattle.c_typed.specs.StmtViews.{groups_of, items_of};
 ghost use Rattle.c_mean.specs.Statements.{chosen_groups, from_default};
 ghost use Rattle.c_interp_expand.specs.TaskViews.{flow_of};
 ghost use Rattle.c_interp_def.specs.Configurations.{variables_of};
 ghost use Rattle.c_interp_def.specs.declared.task.Flow.TheVariants.{Normal};
 ghost use Rattle.c_interp_def.specs.StmtTasks as stmt;
-ghost use Rattle.c_interp_def.specs.StmtTasks.{of_stmt, stmt_task_run};
+ghost use Rattle.c_interp_def.specs.StmtTasks.{stmt_task_run};
 ghost use Rattle.c_interp_layout.specs.Laid.{AreNumbers, IsLaid};
-ghost use Rattle.c_interp.specs.Steps.{IsStep, tasks_do, return_run};
+ghost use Rattle.c_interp.specs.Steps.{IsStep, return_run};
 
 use crate::evaluate::evaluate_unknown;
 use crate::known::known;

@@ -1,14 +1,12 @@
 //! Tasks of loops, and what a jump leaves (ISO/IEC 9899:2011, 6.8.5, 6.8.6).
 
-ghost use Rattle.std.specs.Prelude.{◌≡◌, ℕ, [], ◌∷◌};
-ghost use Rattle.c_typed.specs.Typed.{ProgramTree, OptionalExpr, some_expr};
+ghost use Rattle.std.specs.Prelude.{◌≡◌, ℕ, ◌∷◌};
+ghost use Rattle.c_typed.specs.Typed.{ProgramTree, some_expr};
 ghost use Rattle.c_interp_expand.specs.TaskViews.{flow_of};
 ghost use Rattle.c_interp_def.specs.declared.task.Flow.TheVariants.{Normal};
 ghost use Rattle.c_interp_def.specs.StmtTasks as stmt;
-ghost use Rattle.c_interp_def.specs.ExprTasks as task;
-ghost use Rattle.c_interp_def.specs.StmtTasks.{of_expr, of_stmt, stmt_task_run, handler_run, turn_tasks, again_tasks, optional_tasks};
+ghost use Rattle.c_interp_def.specs.StmtTasks.{of_stmt, stmt_task_run, handler_run, turn_tasks, again_tasks, optional_tasks};
 ghost use Rattle.c_interp_layout.specs.Laid.{IsLaid};
-ghost use Rattle.c_interp.specs.Known.{while_loop};
 ghost use Rattle.c_interp.specs.Steps.{IsStep, tasks_do, turns_do, asked_do};
 
 use crate::machine::{Machine, Program};
