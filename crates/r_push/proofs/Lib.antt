@@ -1,10 +1,10 @@
-mod Stays
-mod Taken
+pub mod Stays
+pub mod Taken
 mod Leaving
-mod Gammas
+pub mod Gammas
 mod Thetas
 mod Placed
-mod Replaced
+pub mod Replaced
 mod CarriedFit
 mod TwoFit
 mod RegionsFit

@@ -61,19 +61,26 @@ has_none n ns h = by (has_node n ns) refl
 
 -- ---- a change at a node
 
-or_none : {X : Type 0} (o : Option X) → option_or o None ≡ o
+pub or_none : {X : Type 0} (o : Option X) → option_or o None ≡ o
 or_none None = refl
 or_none (Some x) = refl
 
-map_twice : {X Y Z : Type 0} (f : X → Y) (g : Y → Z) (o : Option X) → option_map g (option_map f o) ≡ option_map (λ x. g (f x)) o
+pub map_twice : {X Y Z : Type 0} (f : X → Y) (g : Y → Z) (o : Option X) → option_map g (option_map f o) ≡ option_map (λ x. g (f x)) o
 map_twice f g None = refl
 map_twice f g (Some x) = refl
 
-module _ (n : ℕ) (f : RegionTree → Option RegionTree) (only : ChangesOnlyAt n f) where
+-- A change that no region admits in which node n does not stand, at any depth.
+abbrev pub ChangesOnlyAround : (n : ℕ) → (RegionTree → Option RegionTree) → Type 0
+ChangesOnlyAround n f = (r : RegionTree) → (IsAmong n (region_ids r) → ⊥) → f r ≡ None
+
+pub only_around : (n : ℕ) (f : RegionTree → Option RegionTree) → ChangesOnlyAt n f → ChangesOnlyAround n f
+only_around n f only (region args nodes results) h = only (region args nodes results) (has_none n nodes h)
+
+module _ (n : ℕ) (f : RegionTree → Option RegionTree) (only : ChangesOnlyAround n f) where
   mutual
     pub unchanged_without : (r : RegionTree) → (IsAmong n (region_ids r) → ⊥) → region_changed f r ≡ None
     unchanged_without (region args nodes results) h =
-        ap₂ (λ a b. option_or a (option_map (λ ns. region args ns results) b)) (only (region args nodes results) (has_none n nodes h)) (nodes_unchanged_without nodes h)
+        ap₂ (λ a b. option_or a (option_map (λ ns. region args ns results) b)) (only (region args nodes results) h) (nodes_unchanged_without nodes h)
 
     pub nodes_unchanged_without : (ns : NodeTrees) → (IsAmong n (nodes_ids ns) → ⊥) → nodes_changed f ns ≡ None
     nodes_unchanged_without no_nodes h = refl
@@ -195,13 +202,13 @@ module _ (context : RegionTree → RegionTree) (around : IsContext context) (arg
 
       inner : regions_changed f (joined_regions done (region_then r rest)) ≡ option_map (λ s. joined_regions done (region_then s rest)) (region_changed f r)
       inner =
-          regions_changed_within n f only done r rest (λ j. in_own (among-right n (nodes_ids before) (id ∷ regions_ids done) (inr j)))
+          regions_changed_within n f (only_around n f only) done r rest (λ j. in_own (among-right n (nodes_ids before) (id ∷ regions_ids done) (inr j)))
           (λ j. k (among-left n (regions_ids rest) (nodes_ids after ++ around.last) j))
 
       here : region_changed f (with_region r) ≡ option_map with_region (region_changed f r)
       here =
           ap₂ (λ a b. option_or a (option_map (λ ns. region args ns results) b)) (only (with_region r) absent)
-          (nodes_changed_within n f only before (holding r) after not_before not_after
+          (nodes_changed_within n f (only_around n f only) before (holding r) after not_before not_after
           ∙ ap (λ o. option_map (λ y. joined_nodes before (node_then y after)) (option_map (λ ss. node id op inputs ss) o)) inner)
           ∙ ap (option_map (λ ns. region args ns results))
           (ap (option_map (λ y. joined_nodes before (node_then y after))) (map_twice (λ s. joined_regions done (region_then s rest)) (λ ss. node id op inputs ss) (region_changed f r))

@@ -27,7 +27,7 @@ use Rattle.g_mean.proofs.lemmas.Edits.{distinct-split}
 use Rattle.g_mean.proofs.lemmas.Holds.{id-among, distinct-apart}
 use Rattle.r_walk_def.specs.Context.{ChangesOnlyAt, IsContext}
 use Rattle.r_walk_def.specs.Laws.{region_with}
-use Rattle.r_walk_laws.proofs.lemmas.Contexts.{has_none, unchanged_without, nodes_changed_within, regions_unchanged_without, whole_part}
+use Rattle.r_walk_laws.proofs.lemmas.Contexts.{has_none, only_around, unchanged_without, nodes_changed_within, regions_unchanged_without, whole_part}
 
 -- ---- what comes in the place of a node
 
@@ -100,7 +100,7 @@ ids_with args before n nodes outs after results =
 -- ---- a change at a number that the lambda does not have
 
 pub absent : (l : PlainLambda) (n : ℕ) (f : RegionTree → Option RegionTree) → ChangesOnlyAt n f → (IsAmong n (region_ids l.body) → ⊥) → region_changed f l.body ≡ None
-absent l n f only h = unchanged_without n f only l.body h
+absent l n f only h = unchanged_without n f (only_around n f only) l.body h
 
 -- ---- a change at the node
 
@@ -175,14 +175,14 @@ module _ (l : PlainLambda) (context : RegionTree → RegionTree) (args : List Ki
     changed_at s e = ap (region_changed f) at ∙ changed_in (id_of x) f here only (id-among x) ∙ ap (option_map context) (region_changed_here f here s e)
 
     none-inside : (z : NodeTree) → (IsAmong (id_of x) (regions_ids (regions_in z)) → ⊥) → node_changed f z ≡ None
-    none-inside (node id op inputs rs) h = ap (option_map (λ ss. node id op inputs ss)) (regions_unchanged_without (id_of x) f only rs h)
+    none-inside (node id op inputs rs) h = ap (option_map (λ ss. node id op inputs ss)) (regions_unchanged_without (id_of x) f (only_around (id_of x) f only) rs h)
 
     pub unchanged_at : f (region args (joined_nodes before (node_then x after)) results) ≡ None → region_changed f l.body ≡ None
     unchanged_at e =
         ap (region_changed f) at ∙ changed_in (id_of x) f here only (id-among x)
         ∙ ap (option_map context)
         (ap₂ (λ a b. option_or a (option_map (λ ns. region args ns results) b)) e
-        (nodes_changed_within (id_of x) f only before x after (not_in_before (id_of x) (id-among x)) (not_in_after (id_of x) (id-among x))
+        (nodes_changed_within (id_of x) f (only_around (id_of x) f only) before x after (not_in_before (id_of x) (id-among x)) (not_in_after (id_of x) (id-among x))
         ∙ ap (option_map (λ y. joined_nodes before (node_then y after))) (none-inside x not_inside)))
 
   -- ---- what is left with these nodes in its place
@@ -260,5 +260,5 @@ module _ (l : PlainLambda) (context : RegionTree → RegionTree) (args : List Ki
         changed_in n f (region args (joined_nodes before (node_then y after_now)) results_now) only (inside_it n within)
         ∙ ap (option_map context)
         (ap₂ (λ a b. option_or a (option_map (λ ns. region args ns results_now) b)) (only (region args (joined_nodes before (node_then y after_now)) results_now) none_itself)
-        (nodes_changed_within n f only before y after_now (not_in_before n (inside_it n within)) not_in_now
+        (nodes_changed_within n f (only_around n f only) before y after_now (not_in_before n (inside_it n within)) not_in_now
         ∙ ap (λ o. option_map (λ z. joined_nodes before (node_then z after_now)) (option_map (λ ss. node (id_of x) op inputs ss) o)) none))
