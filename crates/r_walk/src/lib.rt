@@ -10,7 +10,8 @@ mod uses;
 mod walker;
 mod words;
 
+pub use moves::{Moves, Now};
 pub use rule::{New, Opening, Said, WalkRule, becomes_or_stays};
-pub use uses::Uses;
+pub use uses::{Uses, uses_of};
 pub use walker::walk;
 pub use words::Words;
