@@ -1,8 +1,8 @@
 # give.py LANE: gives a lane the libraries that are kept on this machine, for crates whose files (and those below) are main's.
 import json,os,shutil,subprocess,sys,glob
-sys.path.insert(0,"/opt/rattle/bin")
+sys.path.insert(0,"KIT/bin")
 import rtlib
-lane=os.path.abspath(sys.argv[1].rstrip('/')); gate='./'; store='/opt/rattle-kept'
+lane=os.path.abspath(sys.argv[1].rstrip('/')); gate='CLONE'; store='STORE'
 deps={}
 for l in open(f'{lane}/crates.txt'):
     l=l.split('#')[0].strip()

@@ -7,7 +7,7 @@ for l in open(root+'/crates.txt'):
     if ':' in l:
         a,b=l.split(':',1); deps[a.strip()]=b.split()
 done=set()
-for d in os.listdir('/opt/rattle-kept'):
+for d in os.listdir('STORE'):
     m=re.match(r'proof-(.*)-[0-9a-f]{64}$',d)
     if m: done.add(m.group(1))
 memo={}

@@ -1,11 +1,12 @@
 # Checks over the libraries that the gate has built, and over the sources of the others.
 import os, sys
-sys.path.insert(0, "/opt/rattle/bin")
+sys.path.insert(0, "KIT/bin")
 import rtlib
 here = os.getcwd()
 crate = rtlib.Crate(here, rtlib.root_above(here) or here, {})
 words = crate.words(["--jobs", "1", *sys.argv[1:]], as_source=True)
-G = "./gate/crates"
+import glob
+G = sorted(glob.glob("TMP/rt-copy-*/repo/crates"), key=os.path.getmtime)[0]
 out = []; dirs = []
 i = 0
 while i < len(words):

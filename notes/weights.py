@@ -12,13 +12,13 @@ while True:
         except OSError: continue
         if g[0]=='/autogroup-1': n=GATE
         elif 'rt\x00ci' in cmd: n=CI
-        elif cmd.startswith('/opt/rattle/bin/rattle') or 'rt\x00check' in cmd: n=LANE
+        elif cmd.startswith('KIT/bin/rattle') or 'rt\x00check' in cmd: n=LANE
         else: continue
         try: d=os.readlink(f'/proc/{p}/cwd')
         except OSError: d=''
         for h,v in HOT.items():
             if d.startswith(h): n=v
-        if g[0]=='/autogroup-1' and cmd.startswith('/opt/rattle/bin/rattle'):
+        if g[0]=='/autogroup-1' and cmd.startswith('KIT/bin/rattle'):
             t=-12 if d.rsplit('/',1)[-1] in CHAIN else 0
             try:
                 for th in os.listdir(f'/proc/{p}/task'):
