@@ -49,13 +49,13 @@ use Rattle.c_interp.proofs.Statements.{asked-while}
 end-then : (a b : Answer Reached) (next : Reached → Answer Reached) → IsEnd a b → IsEnd (then_on a next) b
 end-then a b next h rest j o = ap (λ c. heard_as j (before o c)) (then_associates a next rest) ∙ h (λ r. then_on (next r) rest) j o
 
-stopped-then : (s : Stop) (a : Answer Reached) (next : Reached → Answer Reached) → IsStopped s a → IsStopped s (then_on a next)
-stopped-then (stop.Exit status) a next h = end-then a (Exited [] status) next h
-stopped-then stop.Cut a next h = end-then a (Cut []) next h
-stopped-then stop.Undefined a next h = end-then a (Undefined []) next h
-stopped-then stop.ReadFault a next h = h
-stopped-then stop.WriteFault a next h = h
-stopped-then stop.NoMemory a next h = tt
+pub stopped-then : (status : ℕ) (s : Stop) (a : Answer Reached) (next : Reached → Answer Reached) → IsStopped status s a → IsStopped status s (then_on a next)
+stopped-then status stop.Exit a next h = end-then a (Exited [] status) next h
+stopped-then status stop.Cut a next h = end-then a (Cut []) next h
+stopped-then status stop.Undefined a next h = end-then a (Undefined []) next h
+stopped-then status stop.ReadFault a next h = h
+stopped-then status stop.WriteFault a next h = h
+stopped-then status stop.NoMemory a next h = tt
 
 pub put_then : (p : ProgramTree) (n : ℕ) (r : Result Unit Stop) (old new : Machine) (many : Vec Left Global) (t : Left) (run : Configuration → Answer Reached) →
     many.items ≡ old.tasks.items ++ t ∷ [] → IsStep p n r (with_tasks old many) new run → IsStep p n r old new (λ x. then_on (run x) (task_run p n (task_of t)))
@@ -77,7 +77,7 @@ put_then p n (Ok u) old new many t run pushed step =
 put_then p n (Err s) old new many t run pushed step =
     λ m held i.
     let held' : IsHeld p (with_tasks old many) m = record { store = held.store; counts = held.counts } in
-    stopped-then s (run (config_of old m i)) (task_run p n (task_of t)) (step m held' i)
+    stopped-then new.status s (run (config_of old m i)) (task_run p n (task_of t)) (step m held' i)
 
 -- no jump is on its way any more
 pub flows_then : (p : ProgramTree) (n : ℕ) (r : Result Unit Stop) (old new : Machine) (f : Flow) (run : Configuration → Answer Reached) → IsStep p n r (with_flow old f) new run → IsStep p n r old new run
@@ -100,30 +100,13 @@ located_step p n r old new q a known step =
 -- ---- assignments of which the value is dropped
 
 -- a number becomes that of a variable
-written-moves : (p : ProgramTree) (n : ℕ) (old : Machine) (slots : Vec Slot Global) (e : ExprTree) (w : Assignment) (m : Memory) (i : List ℕ) → IsHeld p old m →
+pub written-moves : (p : ProgramTree) (n : ℕ) (old : Machine) (slots : Vec Slot Global) (e : ExprTree) (w : Assignment) (m : Memory) (i : List ℕ) → IsHeld p old m →
     Knows p n old (λ c s. IsWritten c e s (Some w)) → slots_of slots.items ≡ slice_set (slots_of old.slots.items) w.slot (holds (Num w.word)) →
     tasks_do p n (optional_tasks (some_expr e)) (config_of old m i) ≡ reaches normal (config_of (with_slots old slots) m i)
 written-moves p n old slots e w m i held known set =
     let x : Configuration = config_of old m i in
     ap (λ a. then_on (then_on a (gives_value x)) (task_run p n (of_expr task.discard))) (known m i held)
     ∙ ap (λ q. reaches normal (with_frame_slots x q)) (sym set)
-
-pub written_step : (p : ProgramTree) (n : ℕ) (u : Unit) (old : Machine) (slots : Vec Slot Global) (e : ExprTree) (w : Assignment) → old.flow ≡ Normal →
-    Knows p n old (λ c s. IsWritten c e s (Some w)) → slots_of slots.items ≡ slice_set (slots_of old.slots.items) w.slot (holds (Num w.word)) →
-    IsStep p n (Ok u) old (with_slots old slots) (tasks_do p n (optional_tasks (some_expr e)))
-written_step p n u old slots e w flow known set m held =
-    let held' : IsHeld p (with_slots old slots) m = record { store = held.store; counts = held.counts } in
-    done_at_once p n old (with_slots old slots) (λ i. tasks_do p n (optional_tasks (some_expr e)) (config_of old m i)) m refl held'
-    (λ i. written-moves p n old slots e w m i held known set ∙ ap (λ f. reaches (flow_of f) (config_of (with_slots old slots) m i)) (sym flow))
-
--- and then another task is done
-pub written_then : (p : ProgramTree) (n : ℕ) (r : Result Unit Stop) (old new : Machine) (slots : Vec Slot Global) (e : ExprTree) (w : Assignment) (t : stmt.StmtTask) →
-    Knows p n old (λ c s. IsWritten c e s (Some w)) → slots_of slots.items ≡ slice_set (slots_of old.slots.items) w.slot (holds (Num w.word)) →
-    IsStep p n r (with_slots old slots) new (stmt_task_run p n t) → IsStep p n r old new (tasks_do p n (of_stmt t ∷ optional_tasks (some_expr e)))
-written_then p n r old new slots e w t known set step =
-    moved p n r old (with_slots old slots) new (tasks_do p n (of_stmt t ∷ optional_tasks (some_expr e))) (stmt_task_run p n t) refl
-    (λ m held. (m, record { store = held.store; counts = held.counts }, λ i. ap (λ a. then_on a (task_run p n (of_stmt t))) (written-moves p n old slots e w m i held known set)))
-    step
 
 dropped-stored : (p : ProgramTree) (n : ℕ) (t : TypeTree) (at v : Value) (o : Option Memory) (x : Configuration) →
     then_on (then_on (on_defined o (λ m. gives (state.with_memory (state_of x) m) v)) (gives_value x)) (task_run p n (of_expr task.discard)) ≡ on_defined o (λ m. reaches normal (with_memory x m))
@@ -137,12 +120,10 @@ dropped-store p n t at (Num w) x = dropped-stored p n t at (Num w) (store (acces
 dropped-store p n t at (At b o) x = dropped-stored p n t at (At b o) (store (access_width t) at (At b o) x.memory) x
 
 -- a known value is stored at a known address
-pub stored_known : (p : ProgramTree) (n : ℕ) (r : Result Unit Stop) (old new : Machine) (t : TypeTree) (q : PlaceTree) (a : ExprTree) (at v : Value) (w : Option Value) →
-    Knows p n old (λ c s. IsAddress c q s (Some at)) → Knows p n old (λ c s. IsValue c a s (Some v)) → w ≡ used_value v →
-    IsStep p n r old new (store_run t at w) → IsStep p n r old new (tasks_do p n (optional_tasks (some_expr (expr t (assign q a)))))
-stored_known p n r old new t q a at v w place value is step =
-    same_step p n r old new (tasks_do p n (optional_tasks (some_expr (expr t (assign q a))))) (store_run t at w)
-    (λ m i held.
+pub stored-at : (p : ProgramTree) (n : ℕ) (old : Machine) (t : TypeTree) (q : PlaceTree) (a : ExprTree) (at v : Value) (m : Memory) (i : List ℕ) → IsHeld p old m →
+    Knows p n old (λ c s. IsAddress c q s (Some at)) → Knows p n old (λ c s. IsValue c a s (Some v)) →
+    tasks_do p n (optional_tasks (some_expr (expr t (assign q a)))) (config_of old m i) ≡ store_run t at (used_value v) (config_of old m i)
+stored-at p n old t q a at v m i held place value =
     let x : Configuration = config_of old m i in
     let c : Context = context p n x in
     ap
@@ -150,8 +131,6 @@ stored_known p n r old new t q a at v w place value is step =
     (place m i held)
     ∙ ap (λ z. then_on (then_on (then_on z (λ d. used d.value (λ b. spot_written t (at_address at) b d.state))) (gives_value x)) (task_run p n (of_expr task.discard))) (value m i held)
     ∙ dropped-store p n t at v x
-    ∙ ap (λ o. store_run t at o x) (sym is))
-    step
 
 -- ---- conditions that are known
 

@@ -119,15 +119,17 @@ call_done p n f count u old mid new fn active flow depth there begins h m held =
 -- ---- a call that ends
 
 -- the machine with the caller of the newest call
-abbrev pub back_in : Machine → Active → Vec Active Global → Store → Machine
-back_in m caller few s = record { tasks = m.tasks; operands = m.operands; frame = caller.frame; slots = caller.slots; callers = few; flow = Normal; store = s }
+abbrev pub back_in : Machine → Active → (slots : Vec Slot Global) → Vec Active Global → Store → (spare : Vec Slot Global) → Machine
+back_in m caller slots few s spare =
+    record { tasks = m.tasks; operands = m.operands; frame = caller.frame; slots = slots; callers = few; flow = Normal; store = s; status = m.status; spare = spare }
 
-pub end_call_done : (p : ProgramTree) (n : ℕ) (r : Result Unit Stop) (old new : Machine) (caller : Active) (few : Vec Active Global) (s : Store) (value : Value) →
+pub end_call_done : (p : ProgramTree) (n : ℕ) (r : Result Unit Stop) (old new : Machine) (caller : Active) (slots : Vec Slot Global) (few : Vec Active Global) (s : Store) (spare : Vec Slot Global) (value : Value) →
+    slots ≡ caller.slots →
     old.callers.items ≡ few.items ++ caller ∷ [] → value ≡ value_or_none (value_at_end (old.frame.function == p.main) (flow_of old.flow)) →
     ((calls : List Opened) (m : Memory) → Holds old.store (opened_in old.frame ∷ calls) m → Holds s calls (closed old.frame.objects.first old.frame.objects.count m)) →
-    IsStep p n r (back_in old caller few s) new (give_run (Some value)) → IsStep p n r old new (handler_run p n end_call (flow_of old.flow))
-end_call_done p n r old new caller few s value popped is closes step =
-    moved p n r old (back_in old caller few s) new (handler_run p n end_call (flow_of old.flow)) (give_run (Some value)) refl
+    IsStep p n r (back_in old caller slots few s spare) new (give_run (Some value)) → IsStep p n r old new (handler_run p n end_call (flow_of old.flow))
+end_call_done p n r old new caller slots few s spare value same popped is closes step =
+    moved p n r old (back_in old caller slots few s spare) new (handler_run p n end_call (flow_of old.flow)) (give_run (Some value)) refl
     (λ m held.
     let first : ℕ = old.frame.objects.first in
     let counts : (old.frame.objects.count ≡ length (objects_of p.structs (variables_of p old.frame.function))) × AreCounted p (counted_by caller ∷ reverse (map counted_by few.items)) =
@@ -141,7 +143,8 @@ end_call_done p n r old new caller few s value popped is closes step =
       record { store = holds; counts = counts.1 },
       λ i.
           ap (λ fs. returned_to fs (reverse old.operands.items) (record { value = value_at_end (old.frame.function == p.main) (flow_of old.flow); memory = k; input = i })) (waits frame_of old.callers.items few.items caller popped)
-          ∙ ap (λ v. give_run (Some v) (config_of (back_in old caller few s) k i)) (sym is),
+          ∙ ap (λ q. give_run (Some (value_or_none (value_at_end (old.frame.function == p.main) (flow_of old.flow)))) (config_of (back_in old caller q few s spare) k i)) (sym same)
+          ∙ ap (λ v. give_run (Some v) (config_of (back_in old caller slots few s spare) k i)) (sym is),
     ))
     step
 
@@ -164,7 +167,7 @@ pub call_entered_step : (p : ProgramTree) (n f count : ℕ) (r : Result Unit Sto
     IsStep p n r old new (expr_task_run p n (call f count))
 call_entered_step p n f count (Ok u) old mid new fn active flow depth there begins h = call_done p n f count u old mid new fn active flow depth there begins h
 call_entered_step p n f count (Err stop.NoMemory) old mid new fn active flow depth there begins h = λ m held i. tt
-call_entered_step p n f count (Err (stop.Exit status)) old mid new fn active flow depth there begins h = absurd h
+call_entered_step p n f count (Err stop.Exit) old mid new fn active flow depth there begins h = absurd h
 call_entered_step p n f count (Err stop.Cut) old mid new fn active flow depth there begins h = absurd h
 call_entered_step p n f count (Err stop.Undefined) old mid new fn active flow depth there begins h = absurd h
 call_entered_step p n f count (Err stop.ReadFault) old mid new fn active flow depth there begins h = absurd h
@@ -174,7 +177,7 @@ pub call_not_begun : (p : ProgramTree) (n f count : ℕ) (s : Stop) (old mid new
     IsFrame p f count fn old mid (Err s) → IsStep p n (Err s) old new (expr_task_run p n (call f count))
 call_not_begun p n f count stop.Undefined old mid new fn depth there h = call_undefined p n f count (old.frame.depth - 1) old new fn depth there h
 call_not_begun p n f count stop.NoMemory old mid new fn depth there h = λ m held i. tt
-call_not_begun p n f count (stop.Exit status) old mid new fn depth there h = λ m held i. absurd (h m held)
+call_not_begun p n f count stop.Exit old mid new fn depth there h = λ m held i. absurd (h m held)
 call_not_begun p n f count stop.Cut old mid new fn depth there h = λ m held i. absurd (h m held)
 call_not_begun p n f count stop.ReadFault old mid new fn depth there h = λ m held i. absurd (h m held)
 call_not_begun p n f count stop.WriteFault old mid new fn depth there h = λ m held i. absurd (h m held)

@@ -182,13 +182,3 @@ given-used : (p : ProgramTree) (n : ℕ) (x : Configuration) (v : Value) → the
 given-used p n x (Num w) = refl
 given-used p n x (At b o) = refl
 given-used p n x Bad = refl
-
--- its value is known
-pub passed_known : (p : ProgramTree) (n : ℕ) (r : Result Unit Stop) (old new : Machine) (e : ExprTree) (v : Value) (w : Option Value) → Knows p n old (λ c s. IsValue c e s (Some v)) → w ≡ used_value v →
-    IsStep p n r old new (give_run w) → IsStep p n r old new (passed_run p n e)
-passed_known p n r old new e v w known is step =
-    same_step p n r old new (passed_run p n e) (give_run w)
-    (λ m i held.
-    let x : Configuration = config_of old m i in
-    ap (λ z. then_on (then_on z (gives_value x)) (task_run p n (of_expr task.use_it))) (known m i held) ∙ given-used p n x v ∙ ap (λ o. give_run o x) (sym is))
-    step

@@ -14,6 +14,7 @@ use Rattle.c_interp_store.specs.declared.shape.Shape.{Shape}
 use Rattle.c_interp_store.specs.declared.store.Store.{Store}
 use Rattle.c_interp_store.specs.Blocks.{shape_of, shapes_of}
 use Rattle.c_interp_store.specs.Holding.{Opened, Holds}
+use Rattle.c_interp_def.specs.declared.task.Slot.{Slot as CodeSlot}
 use Rattle.c_interp_def.specs.Configurations as def
 use Rattle.c_interp_def.specs.Configurations.{variables_in, variables_of, object_sizes}
 use Rattle.c_interp_def.specs.ExprTasks.{newest}
@@ -50,8 +51,8 @@ args-read ops all count first same first_is =
     take_all (length all - first) (drop first all) (omega (arith, length-drop first all)) ∙ ap (drop first) same ∙ ap (λ k. drop k ops) first_is ∙ sym (newest-are count ops)
 
 -- the machine once the arguments were taken
-abbrev pub taken_from : Machine → Vec Value Global → Store → Machine
-taken_from m ops s = record { tasks = m.tasks; operands = ops; frame = m.frame; slots = m.slots; callers = m.callers; flow = m.flow; store = s }
+abbrev pub taken_from : Machine → Vec Value Global → Store → (spare : Vec CodeSlot Global) → Machine
+taken_from m ops s spare = record { tasks = m.tasks; operands = ops; frame = m.frame; slots = m.slots; callers = m.callers; flow = m.flow; store = s; status = m.status; spare = spare }
 
 abbrev pub Opens : Machine → List Shape → Opened → Store → Type 0
 Opens old shapes o s =
@@ -82,22 +83,22 @@ module _ (p : ProgramTree) (f count : ℕ) (fn : FunctionTree) (old : Machine) (
       IsFrame p f count fn old new (Err r)
   begins_err X last new stop.Undefined h = begins_none h
   begins_err X last new stop.NoMemory h = tt
-  begins_err X last new (stop.Exit status) h = λ m held. h (o ∷ calls_in old) (m ++ opened (shapes_of shapes)) (opens (calls_in old) m held.store).1
+  begins_err X last new stop.Exit h = λ m held. h (o ∷ calls_in old) (m ++ opened (shapes_of shapes)) (opens (calls_in old) m held.store).1
   begins_err X last new stop.Cut h = λ m held. h (o ∷ calls_in old) (m ++ opened (shapes_of shapes)) (opens (calls_in old) m held.store).1
   begins_err X last new stop.ReadFault h = λ m held. h (o ∷ calls_in old) (m ++ opened (shapes_of shapes)) (opens (calls_in old) m held.store).1
   begins_err X last new stop.WriteFault h = λ m held. h (o ∷ calls_in old) (m ++ opened (shapes_of shapes)) (opens (calls_in old) m held.store).1
 
-  pub begins : (active : Active) (last : Store) (ops : Vec Value Global) → ((calls : List Opened) (m : Memory) → Holds s calls m → IsSomeHeld calls (stored_in m) last) →
+  pub begins : (active : Active) (last : Store) (ops : Vec Value Global) (spare : Vec CodeSlot Global) → ((calls : List Opened) (m : Memory) → Holds s calls m → IsSomeHeld calls (stored_in m) last) →
       opened_by active ≡ o → active.frame.function ≡ f → active.frame.depth ≡ old.frame.depth - 1 → slots_of active.slots.items ≡ params_in_scope 0 params args →
       ops.items ≡ take (length old.operands.items - count) old.operands.items →
-      (m : Memory) → IsHeld p old m → BeginsCall p f count fn old (taken_from old ops last) active m
-  begins active last ops stores is_opened is_function is_depth slots taken m held =
+      (m : Memory) → IsHeld p old m → BeginsCall p f count fn old (taken_from old ops last spare) active m
+  begins active last ops spare stores is_opened is_function is_depth slots taken m held =
       by (stored_in (m ++ opened (shapes_of shapes))) refl (stores (o ∷ calls_in old) (m ++ opened (shapes_of shapes)) (opens (calls_in old) m held.store).1)
     where
       e : o ≡ record { first = length m; count = length shapes }
       e = (opens (calls_in old) m held.store).0
 
-      by : (q : Option Memory) → stored_in (m ++ opened (shapes_of shapes)) ≡ q → IsSomeHeld (o ∷ calls_in old) q last → BeginsCall p f count fn old (taken_from old ops last) active m
+      by : (q : Option Memory) → stored_in (m ++ opened (shapes_of shapes)) ≡ q → IsSomeHeld (o ∷ calls_in old) q last → BeginsCall p f count fn old (taken_from old ops last spare) active m
       by None is h = absurd h
       by (Some k) is h = record {
         memory = k;

@@ -17,3 +17,6 @@ mod Dispatch
 mod Characters
 mod AtOnce
 mod Evaluated
+mod Performed
+mod Items
+mod Unknown

@@ -55,13 +55,13 @@ stays_step p n u m run h k held = done_at_once p n m m (λ i. run (config_of m k
 
 -- ---- a step that neither reads nor writes
 
-stopped_at : (reads writes : Type 0) (r : Stop) (a : Answer Reached) → IsStopped r a → IsStoppedAt reads writes r a
-stopped_at reads writes (stop.Exit status) a h = h
-stopped_at reads writes stop.Cut a h = h
-stopped_at reads writes stop.Undefined a h = h
-stopped_at reads writes stop.ReadFault a h = absurd h
-stopped_at reads writes stop.WriteFault a h = absurd h
-stopped_at reads writes stop.NoMemory a h = h
+stopped_at : (reads writes : Type 0) (status : ℕ) (r : Stop) (a : Answer Reached) → IsStopped status r a → IsStoppedAt reads writes status r a
+stopped_at reads writes status stop.Exit a h = h
+stopped_at reads writes status stop.Cut a h = h
+stopped_at reads writes status stop.Undefined a h = h
+stopped_at reads writes status stop.ReadFault a h = absurd h
+stopped_at reads writes status stop.WriteFault a h = absurd h
+stopped_at reads writes status stop.NoMemory a h = h
 
 pub quiet_at : (p : ProgramTree) (n : ℕ) (r : Result Unit Stop) (old new : Machine) (run : Configuration → Answer Reached) (now : Port) (reads writes : Type 0) →
     (now.closed ≡ true → IsAtEnd now.left) → IsStep p n r old new run → IsStepAt p n r old new run now now reads writes
@@ -83,7 +83,7 @@ quiet_at p n (Ok u) old new run now reads writes at_end step =
       same = λ input closed rest. d.same input rest;
     }
 quiet_at p n (Err r) old new run now reads writes at_end step =
-    (record { held = refl; left = refl }, λ m held i. stopped_at reads writes r (run (config_of old m i)) (step m held i))
+    (record { held = refl; left = refl }, λ m held i. stopped_at reads writes new.status r (run (config_of old m i)) (step m held i))
 
 -- a step of a task that does the same
 pub at_same : (p : ProgramTree) (n : ℕ) (r : Result Unit Stop) (old new : Machine) (run run' : Configuration → Answer Reached) (first last : Port) (reads writes : Type 0) →
@@ -106,10 +106,10 @@ at_same p n (Ok u) old new run run' first last reads writes e step =
       same = λ input closed rest j o. ap (λ c. heard_as j (before o (then_on c rest))) (e (config_of old m (d.bytes ++ input))) ∙ d.same input closed rest j o;
     }
 at_same p n (Err r) old new run run' first last reads writes e step =
-    (step.0, λ m held i. same-stop reads writes r (run (config_of old m i)) (run' (config_of old m i)) (e (config_of old m i)) (step.1 m held i))
+    (step.0, λ m held i. same-stop reads writes new.status r (run (config_of old m i)) (run' (config_of old m i)) (e (config_of old m i)) (step.1 m held i))
   where
-    same-stop : (reads writes : Type 0) (r : Stop) (a b : Answer Reached) → a ≡ b → IsStoppedAt reads writes r b → IsStoppedAt reads writes r a
-    same-stop reads writes r a b e h = let P : Answer Reached → Type 0 = IsStoppedAt reads writes r in subst P (sym e) h
+    same-stop : (reads writes : Type 0) (status : ℕ) (r : Stop) (a b : Answer Reached) → a ≡ b → IsStoppedAt reads writes status r b → IsStoppedAt reads writes status r a
+    same-stop reads writes status r a b e h = let P : Answer Reached → Type 0 = IsStoppedAt reads writes status r in subst P (sym e) h
 
 -- ---- a byte is read
 
@@ -231,7 +231,7 @@ pub byte_stopped : (p : ProgramTree) (n : ℕ) (r : Stop) (old new : Machine) (f
     IsStepAt p n (Err r) old new (expr_task_run p n write_byte) now now reads writes
 byte_stopped p n stop.Undefined old new few now reads writes h = (record { held = refl; left = refl }, λ m held i. by m i h)
   where
-    by : (m : Memory) (i : List ℕ) → IsByte (Err stop.Undefined) old.operands.items few → IsStopped stop.Undefined (expr_task_run p n write_byte (config_of old m i))
+    by : (m : Memory) (i : List ℕ) → IsByte (Err stop.Undefined) old.operands.items few → IsStopped new.status stop.Undefined (expr_task_run p n write_byte (config_of old m i))
     by m i (inl e) =
         end-undefined (expr_task_run p n write_byte (config_of old m i)) (ap (λ vs. expr_task_run p n write_byte (with_operands (config_of old m i) (reverse vs))) e)
     by m i (inr (fewer, v, e, none)) =
@@ -240,7 +240,7 @@ byte_stopped p n stop.Undefined old new few now reads writes h = (record { held 
         (ap (λ vs. expr_task_run p n write_byte (with_operands (config_of old m i) vs)) (newest-one fewer old.operands.items v e)
         ∙ on-number v wrote_of ∙ ap (λ o. on_defined o wrote_of) none)
 byte_stopped p n stop.NoMemory old new few now reads writes h = (record { held = refl; left = refl }, λ m held i. tt)
-byte_stopped p n (stop.Exit status) old new few now reads writes h = absurd h
+byte_stopped p n stop.Exit old new few now reads writes h = absurd h
 byte_stopped p n stop.Cut old new few now reads writes h = absurd h
 byte_stopped p n stop.ReadFault old new few now reads writes h = absurd h
 byte_stopped p n stop.WriteFault old new few now reads writes h = absurd h

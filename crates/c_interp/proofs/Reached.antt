@@ -31,7 +31,7 @@ use Rattle.c_interp.specs.Interpreted.{Streams, IsLeft, IsSomeRun, IsPart, HasEn
 use Rattle.c_interp.specs.Machines.{config_of, reached_of, IsHeld}
 use Rattle.c_interp.specs.Steps.{task_from}
 use Rattle.c_interp.specs.Ports.{Port, IsDoneAt, IsStoppedAt, AreLeft}
-use Rattle.c_interp.specs.Begun.{HasBegun, stop_of}
+use Rattle.c_interp.specs.Begun.{HasBegun, HasStopped}
 use Rattle.c_interp.proofs.Steps.{with_tasks, tasks-last}
 use Rattle.c_interp.proofs.Heard.{heard-after, heard-once, taken-append, heard_with, heard-exit, heard-cut, heard-undefined, heard-returned, written-first}
 
@@ -193,25 +193,47 @@ module _ (p : ProgramTree) (n : ℕ) (first : Port) (m : Machine) (few : Vec Tas
       ∙ ap (λ b. heard_as (r.bytes ++ here) (before r.did b)) (last-first p n m.tasks.items few.items t (reached_of m r.memory here) popped)
       ∙ is (tasks_run p n (tasks_of few.items)) (r.bytes ++ here) r.did
 
-  pub stopped-run : (reads writes : Type 0) (e : Ending) → IsStoppedAt reads writes (stop_of e) this → HasEnded n p (streams first) (streams last) reads writes e
-  stopped-run reads writes (ending.Exit status) is =
+  -- how a run ends where the task ends so
+  abbrev EndsAs : (reads writes : Type 0) → Ending → Type 0
+  EndsAs reads writes (ending.Exit status) = IsStoppedAt reads writes status stop.Exit this
+  EndsAs reads writes ending.Cut = IsStoppedAt reads writes 0 stop.Cut this
+  EndsAs reads writes ending.Undefined = IsStoppedAt reads writes 0 stop.Undefined this
+  EndsAs reads writes ending.ReadFault = reads
+  EndsAs reads writes ending.WriteFault = writes
+
+  ended : (reads writes : Type 0) (e : Ending) → EndsAs reads writes e → HasEnded n p (streams first) (streams last) reads writes e
+  ended reads writes (ending.Exit status) is =
       some-run p n first m now last r (run.exit status) same (heard-then (Exited [] status) is ∙ heard-exit Reached r.did r.bytes here status r.count)
-  stopped-run reads writes ending.Cut is = some-run p n first m now last r run.cut same (heard-then (Cut []) is ∙ heard-cut Reached r.did r.bytes here r.count)
-  stopped-run reads writes ending.Undefined is =
+  ended reads writes ending.Cut is = some-run p n first m now last r run.cut same (heard-then (Cut []) is ∙ heard-cut Reached r.did r.bytes here r.count)
+  ended reads writes ending.Undefined is =
       some-run p n first m now last r run.undefined same (heard-then (Undefined []) is ∙ heard-undefined Reached r.did r.bytes here r.count)
-  stopped-run reads writes ending.ReadFault is = (is, part p n first m now last r same)
-  stopped-run reads writes ending.WriteFault is = (is, part p n first m now last r same)
+  ended reads writes ending.ReadFault is = (is, part p n first m now last r same)
+  ended reads writes ending.WriteFault is = (is, part p n first m now last r same)
+
+  -- how the task ends, by why the step did not go on
+  stopped-by : (reads writes : Type 0) (status : ℕ) (s z : Stop) → s ≡ z → IsStoppedAt reads writes status s this → IsStoppedAt reads writes status z this
+  stopped-by reads writes status s z e h = let P : Stop → Type 0 = λ q. IsStoppedAt reads writes status q this in subst P e h
+
+  pub stopped-run : (reads writes : Type 0) (status : ℕ) (s : Stop) (e : Ending) → HasStopped s status e → IsStoppedAt reads writes status s this → HasEnded n p (streams first) (streams last) reads writes e
+  stopped-run reads writes status s e why h = by e why
+    where
+      by : (e : Ending) → HasStopped s status e → HasEnded n p (streams first) (streams last) reads writes e
+      by (ending.Exit k) why =
+          ended reads writes (ending.Exit k) (let P : ℕ → Type 0 = λ j. IsStoppedAt reads writes j stop.Exit this in subst P (sym why.1) (stopped-by reads writes status s stop.Exit why.0 h))
+      by ending.Cut why = ended reads writes ending.Cut (stopped-by reads writes status s stop.Cut why h)
+      by ending.Undefined why = ended reads writes ending.Undefined (stopped-by reads writes status s stop.Undefined why h)
+      by ending.ReadFault why = ended reads writes ending.ReadFault (stopped-by reads writes status s stop.ReadFault why h)
+      by ending.WriteFault why = ended reads writes ending.WriteFault (stopped-by reads writes status s stop.WriteFault why h)
 
 -- how a run ends where a step did not go on
-pub ended_by : {X : Type 0} (p : ProgramTree) (n : ℕ) (first : Port) (m : Machine) (few : Vec Task Global) (t : Task) (now last : Port) (reads writes : Type 0) (s : Stop) (q : Result Ending X) →
+pub ended_by : {X : Type 0} (p : ProgramTree) (n : ℕ) (first : Port) (m : Machine) (few : Vec Task Global) (t : Task) (now last : Port) (reads writes : Type 0) (status : ℕ) (s : Stop) (q : Result Ending X) →
     IsReached p n first m now → m.tasks.items ≡ few.items ++ t ∷ [] →
-    AreLeft now last × ((k : Memory) → IsHeld p (with_tasks m few) k → (i : List ℕ) → IsStoppedAt reads writes s (task_from p n (task_of t) (flow_of m.flow) (config_of (with_tasks m few) k i))) →
-    MatchResult q (λ e. s ≡ stop_of e) (λ x. s ≡ stop.NoMemory) → MatchResult q (HasEnded n p (streams first) (streams last) reads writes) (λ x. IsPart n p (streams first) (streams last))
-ended_by p n first m few t now last reads writes s (Ok e) r popped step is =
+    AreLeft now last × ((k : Memory) → IsHeld p (with_tasks m few) k → (i : List ℕ) → IsStoppedAt reads writes status s (task_from p n (task_of t) (flow_of m.flow) (config_of (with_tasks m few) k i))) →
+    MatchResult q (HasStopped s status) (λ x. s ≡ stop.NoMemory) → MatchResult q (HasEnded n p (streams first) (streams last) reads writes) (λ x. IsPart n p (streams first) (streams last))
+ended_by p n first m few t now last reads writes status s (Ok e) r popped step is =
     let held' : IsHeld p (with_tasks m few) r.memory = record { store = r.is_held.store; counts = r.is_held.counts } in
-    let P : Stop → Type 0 = λ z. IsStoppedAt reads writes z (task_from p n (task_of t) (flow_of m.flow) (config_of (with_tasks m few) r.memory (known now.left))) in
-    stopped-run p n first m few t now last r popped step.0 reads writes e (subst P is (step.1 r.memory held' (known now.left)))
-ended_by p n first m few t now last reads writes s (Err x) r popped step is = part p n first m now last r step.0
+    stopped-run p n first m few t now last r popped step.0 reads writes status s e is (step.1 r.memory held' (known now.left))
+ended_by p n first m few t now last reads writes status s (Err x) r popped step is = part p n first m now last r step.0
 
 -- nothing was done
 pub nothing_done : (p : ProgramTree) (n : ℕ) (s : Streams) → IsPart n p s s

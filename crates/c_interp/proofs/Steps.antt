@@ -34,8 +34,8 @@ end-exit a status e rest = heard-equal (then_on a rest) (Exited [] status) (ap (
 
 -- ---- what is stopped or done by an equation
 
-pub stopped-same : (s : Stop) (a b : Answer Reached) → a ≡ b → IsStopped s b → IsStopped s a
-stopped-same s a b e h = let P : Answer Reached → Type 0 = IsStopped s in subst P (sym e) h
+pub stopped-same : (status : ℕ) (s : Stop) (a b : Answer Reached) → a ≡ b → IsStopped status s b → IsStopped status s a
+stopped-same status s a b e h = let P : Answer Reached → Type 0 = IsStopped status s in subst P (sym e) h
 
 pub done-same : (p : ProgramTree) (n : ℕ) (old new : Machine) (a b : List ℕ → Answer Reached) → ((i : List ℕ) → a i ≡ b i) → IsDone p n old new b → IsDone p n old new a
 done-same p n old new a b e d = record {
@@ -72,7 +72,7 @@ pub same_step : (p : ProgramTree) (n : ℕ) (r : Result Unit Stop) (old new : Ma
 same_step p n (Ok u) old new run run' e step =
     λ m held.
     done-same p n old new (λ i. run (config_of old m i)) (λ i. run' (config_of old m i)) (λ i. e m i held) (step m held)
-same_step p n (Err s) old new run run' e step = λ m held i. stopped-same s (run (config_of old m i)) (run' (config_of old m i)) (e m i held) (step m held i)
+same_step p n (Err s) old new run run' e step = λ m held i. stopped-same new.status s (run (config_of old m i)) (run' (config_of old m i)) (e m i held) (step m held i)
 
 -- the blocks of the calls of a machine, of which the newest stands first
 abbrev pub calls_in : Machine → List Opened
@@ -81,10 +81,10 @@ calls_in m = opened_in m.frame ∷ reverse (map opened_by m.callers.items)
 -- ---- operands that were taken
 
 abbrev pub with_ops : Machine → Vec Value Global → Machine
-with_ops m vs = record { tasks = m.tasks; operands = vs; frame = m.frame; slots = m.slots; callers = m.callers; flow = m.flow; store = m.store }
+with_ops m vs = record { tasks = m.tasks; operands = vs; frame = m.frame; slots = m.slots; callers = m.callers; flow = m.flow; store = m.store; status = m.status; spare = m.spare }
 
 abbrev pub with_tasks : Machine → Vec Left Global → Machine
-with_tasks m ts = record { tasks = ts; operands = m.operands; frame = m.frame; slots = m.slots; callers = m.callers; flow = m.flow; store = m.store }
+with_tasks m ts = record { tasks = ts; operands = m.operands; frame = m.frame; slots = m.slots; callers = m.callers; flow = m.flow; store = m.store; status = m.status; spare = m.spare }
 
 -- the newest operands first
 pub newest-one : (few many : List Value) (v : Value) → many ≡ few ++ v ∷ [] → reverse many ≡ v ∷ reverse few
@@ -118,7 +118,7 @@ taken p n (Ok u) old new few vs run run' e does step =
 taken p n (Err s) old new few vs run run' e does step =
     λ m held i.
     let held' : IsHeld p (with_ops old few) m = record { store = held.store; counts = held.counts } in
-    stopped-same s (run (config_of old m i)) (run' (config_of (with_ops old few) m i))
+    stopped-same new.status s (run (config_of old m i)) (run' (config_of (with_ops old few) m i))
     (ap (λ xs. run (with_operands (config_of old m i) xs)) e ∙ does m i held) (step m held' i)
 
 -- ---- operands that are not there
@@ -177,7 +177,7 @@ moved p n (Ok u) old mid new run run' tasks at step =
 moved p n (Err s) old mid new run run' tasks at step =
     λ m held i.
     let (k, held', does) = at m held in
-    stopped-same s (run (config_of old m i)) (run' (config_of mid k i)) (does i) (step k held' i)
+    stopped-same new.status s (run (config_of old m i)) (run' (config_of mid k i)) (does i) (step k held' i)
 
 pub nothing_step : (p : ProgramTree) (n : ℕ) (u : Unit) (m : Machine) → m.flow ≡ Normal → IsStep p n (Ok u) m m nothing_run
 nothing_step p n u m e k held = done_at_once p n m m (λ i. nothing_run (config_of m k i)) k refl held (λ i. ap (λ f. reaches (flow_of f) (config_of m k i)) (sym e))
@@ -198,7 +198,7 @@ put_step p n u old many ts run e tasks does m held =
 -- ---- a memory that is changed
 
 abbrev pub with_store : Machine → Store → Machine
-with_store m s = record { tasks = m.tasks; operands = m.operands; frame = m.frame; slots = m.slots; callers = m.callers; flow = m.flow; store = s }
+with_store m s = record { tasks = m.tasks; operands = m.operands; frame = m.frame; slots = m.slots; callers = m.callers; flow = m.flow; store = s; status = m.status; spare = m.spare }
 
 pub changed_step : (p : ProgramTree) (n : ℕ) (u : Unit) (old : Machine) (s : Store) (run : Configuration → Answer Reached) → old.flow ≡ Normal →
     ((m : Memory) → IsHeld p old m → (k : Memory) × Holds s (calls_in old) k × ((i : List ℕ) → run (config_of old m i) ≡ reaches normal (config_of old k i))) →

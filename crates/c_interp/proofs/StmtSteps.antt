@@ -24,18 +24,17 @@ use Rattle.c_interp_def.specs.ExprTasks as task
 use Rattle.c_interp_def.specs.ExprTasks.{context, expr_task_run}
 use Rattle.c_interp_def.specs.StmtTasks as stmt
 use Rattle.c_interp_def.specs.StmtTasks.{of_stmt, groups_run, stmt_task_run, handler_run}
-use Rattle.c_interp_def.specs.declared.task.Task.{Task as Left}
 use Rattle.c_interp_def.specs.declared.task.Slot.{Slot}
 use Rattle.c_interp_def.specs.declared.task.Slot.TheVariants.{Holds as HeldSlot}
 use Rattle.c_interp_def.specs.declared.task.Flow.{Flow}
 use Rattle.c_interp_def.specs.declared.task.Flow.TheVariants.{Normal, Broke, Continued, Returned as JumpedBack}
-use Rattle.c_interp_expand.specs.TaskViews.{tasks_of, slot_of, slots_of, flow_of}
+use Rattle.c_interp_expand.specs.TaskViews.{slot_of, slots_of, flow_of}
 use Rattle.c_interp.specs.declared.stop.Stop.{Stop}
 use Rattle.c_interp.specs.declared.stop.Stop.TheVariants as stop
 use Rattle.c_interp.specs.declared.machine.Machine.{Machine}
 use Rattle.c_interp.specs.Machines.{config_of, IsHeld}
 use Rattle.c_interp.specs.Steps.{IsStep, nothing_run, tasks_do, give_run, choose_run, store_run, with_frame_slots, number, slot_read, slot_address, slot_begun, asked_do, IsSomeHeld, IsStored}
-use Rattle.c_interp.proofs.Steps.{with_ops, with_tasks, with_store, calls_in, newest-one, done_at_once, done_by, undefined_step, nothing_step, same_step, changed_step, end-exit}
+use Rattle.c_interp.proofs.Steps.{with_ops, with_store, calls_in, newest-one, done_at_once, undefined_step, nothing_step, same_step, changed_step, end-exit}
 use Rattle.c_interp.proofs.ExprSteps.{one, here, decided}
 use Rattle.c_interp.proofs.Operators.{slot-gives, address-gives}
 use Rattle.c_interp.proofs.Statements.{entered-is, store-begins, zeros-are}
@@ -84,13 +83,16 @@ global_step p n r old new k v is step =
     same_step p n r old new (expr_task_run p n (task.global_at k)) (give_run (Some v)) (λ m i held. ap (λ u. give_run (Some u) (config_of old m i)) (sym is)) step
 
 abbrev pub with_slots : Machine → Vec Slot Global → Machine
-with_slots m s = record { tasks = m.tasks; operands = m.operands; frame = m.frame; slots = s; callers = m.callers; flow = m.flow; store = m.store }
+with_slots m s = record { tasks = m.tasks; operands = m.operands; frame = m.frame; slots = s; callers = m.callers; flow = m.flow; store = m.store; status = m.status; spare = m.spare }
+
+abbrev pub with_status : Machine → ℕ → Machine
+with_status m k = record { tasks = m.tasks; operands = m.operands; frame = m.frame; slots = m.slots; callers = m.callers; flow = m.flow; store = m.store; status = k; spare = m.spare }
 
 -- the end of the program
-pub exit_step : (p : ProgramTree) (n : ℕ) (old new : Machine) (few : Vec Value Global) (v : Value) (w status : ℕ) → old.operands.items ≡ few.items ++ v ∷ [] → number v ≡ Some w → status ≡ w % 256 →
-    IsStep p n (Err (stop.Exit status)) old new (expr_task_run p n task.end_program)
-exit_step p n old new few v w status e is last m held i =
-    end-exit (expr_task_run p n task.end_program (config_of old m i)) status
+pub exit_step : (p : ProgramTree) (n : ℕ) (old new : Machine) (few : Vec Value Global) (v : Value) (w : ℕ) → old.operands.items ≡ few.items ++ v ∷ [] → number v ≡ Some w → new.status ≡ w % 256 →
+    IsStep p n (Err stop.Exit) old new (expr_task_run p n task.end_program)
+exit_step p n old new few v w e is last m held i =
+    end-exit (expr_task_run p n task.end_program (config_of old m i)) new.status
     (ap (λ vs. expr_task_run p n task.end_program (with_operands (config_of old m i) vs)) (newest-one few.items old.operands.items v e)
     ∙ on-number v (λ u. Exited [] (u % 256)) ∙ ap (λ o. on_defined o (λ u. Exited [] (u % 256))) is ∙ ap (Exited []) (sym last))
 
@@ -157,7 +159,7 @@ asked_false p n u old few v t next flow popped is =
 -- ---- jumps
 
 abbrev pub with_flow : Machine → Flow → Machine
-with_flow m f = record { tasks = m.tasks; operands = m.operands; frame = m.frame; slots = m.slots; callers = m.callers; flow = f; store = m.store }
+with_flow m f = record { tasks = m.tasks; operands = m.operands; frame = m.frame; slots = m.slots; callers = m.callers; flow = f; store = m.store; status = m.status; spare = m.spare }
 
 -- a jump takes another course
 pub flow_step : (p : ProgramTree) (n : ℕ) (u : Unit) (old : Machine) (f : Flow) (run : Configuration → Answer Reached) → ((x : Configuration) → run x ≡ reaches (flow_of f) x) → IsStep p n (Ok u) old (with_flow old f) run
@@ -180,14 +182,6 @@ switch-stays p n Normal x h = refl
 switch-stays p n Broke x h = absurd (h refl)
 switch-stays p n Continued x h = refl
 switch-stays p n (JumpedBack v) x h = refl
-
--- a loop goes on
-pub on_step : (p : ProgramTree) (n : ℕ) (u : Unit) (old : Machine) (many : Vec Left Global) (ts : List stmt.Task) → tasks_of many.items ≡ tasks_of old.tasks.items ++ ts →
-    IsStep p n (Ok u) old (with_flow (with_tasks old many) Normal) (tasks_do p n ts)
-on_step p n u old many ts put m held =
-    let last : Machine = with_flow (with_tasks old many) Normal in
-    let held' : IsHeld p last m = record { store = held.store; counts = held.counts } in
-    done_by p n old last (λ i. tasks_do p n ts (config_of old m i)) ts m put held' (λ i. refl)
 
 -- ---- scopes
 
@@ -302,7 +296,7 @@ characters_step p n (Err stop.Undefined) old s k o cs object flow is stores =
     ap (λ q. on_defined q (λ z. goes_on_at (config_of old m i) (state.with_memory (state_of (config_of old m i)) z)))
     (ap (λ a. characters_stored a o cs m) (sym is) ∙ stores (calls_in old) m held.store))
 characters_step p n (Err stop.NoMemory) old s k o cs object flow is stores = λ m held i. tt
-characters_step p n (Err (stop.Exit status)) old s k o cs object flow is stores = λ m held i. absurd (stores (calls_in old) m held.store)
+characters_step p n (Err stop.Exit) old s k o cs object flow is stores = λ m held i. absurd (stores (calls_in old) m held.store)
 characters_step p n (Err stop.Cut) old s k o cs object flow is stores = λ m held i. absurd (stores (calls_in old) m held.store)
 characters_step p n (Err stop.ReadFault) old s k o cs object flow is stores = λ m held i. absurd (stores (calls_in old) m held.store)
 characters_step p n (Err stop.WriteFault) old s k o cs object flow is stores = λ m held i. absurd (stores (calls_in old) m held.store)

@@ -17,10 +17,10 @@ pub record HasBegun (p : ProgramTree) (n : ℕ) (m : Machine) : Type 0 where
   pub at : (input : List ℕ) → reached_of m (first_memory p) input ≡ normally (at_start p n input)
   pub held : IsHeld p m (first_memory p)
 
--- why a step did not go on where the run ends so
-abbrev pub stop_of : Ending → Stop
-stop_of (ending.Exit status) = stop.Exit status
-stop_of ending.Cut = stop.Cut
-stop_of ending.Undefined = stop.Undefined
-stop_of ending.ReadFault = stop.ReadFault
-stop_of ending.WriteFault = stop.WriteFault
+-- why a step did not go on where the run ends so, with this status where it exits
+abbrev pub HasStopped : Stop → (status : ℕ) → Ending → Type 0
+HasStopped s status (ending.Exit k) = (s ≡ stop.Exit) × (k ≡ status)
+HasStopped s status ending.Cut = s ≡ stop.Cut
+HasStopped s status ending.Undefined = s ≡ stop.Undefined
+HasStopped s status ending.ReadFault = s ≡ stop.ReadFault
+HasStopped s status ending.WriteFault = s ≡ stop.WriteFault

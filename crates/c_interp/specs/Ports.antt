@@ -50,10 +50,10 @@ pub record IsDoneAt (p : ProgramTree) (n : ℕ) (old new : Machine) (a : List �
       IsHeardAs (then_on (a (bytes ++ input)) rest) (before did (then_on (tasks_run p n put (reached_of new memory input)) rest))
 
 -- as `IsStopped`, or a call of the input or of the output failed
-abbrev pub IsStoppedAt : (reads writes : Type 0) → Stop → Answer Reached → Type 0
-IsStoppedAt reads writes stop.ReadFault a = reads
-IsStoppedAt reads writes stop.WriteFault a = writes
-IsStoppedAt reads writes s a = IsStopped s a
+abbrev pub IsStoppedAt : (reads writes : Type 0) → (status : ℕ) → Stop → Answer Reached → Type 0
+IsStoppedAt reads writes status stop.ReadFault a = reads
+IsStoppedAt reads writes status stop.WriteFault a = writes
+IsStoppedAt reads writes status s a = IsStopped status s a
 
 -- nothing was written or taken
 pub record AreLeft (first last : Port) : Type 0 where
@@ -64,7 +64,7 @@ abbrev pub IsStepAt : ProgramTree → (bound : ℕ) → Result Unit Stop → (ol
 IsStepAt p n (Ok u) old new run first last reads writes =
     (m : Memory) → IsHeld p old m → IsDoneAt p n old new (λ i. run (config_of old m i)) first last
 IsStepAt p n (Err s) old new run first last reads writes =
-    AreLeft first last × ((m : Memory) → IsHeld p old m → (i : List ℕ) → IsStoppedAt reads writes s (run (config_of old m i)))
+    AreLeft first last × ((m : Memory) → IsHeld p old m → (i : List ℕ) → IsStoppedAt reads writes new.status s (run (config_of old m i)))
 
 -- The newest operand is a number, in whose place its last byte stands. Nothing is said where memory is out.
 abbrev pub IsByte : Result ℕ Stop → (old new : List Value) → Type 0

@@ -1,5 +1,5 @@
 -- What a step of the machine does, by what the definition says of the task.
-use Rattle.std.specs.Prelude.{◌≡◌, ℕ, List, [], ◌∷◌, ◌++◌, if◌then◌else◌, Bool, true, false, Option, None, Some, unwrap_or, option_and_then, slice_set, Result, Ok, Err}
+use Rattle.std.specs.Prelude.{◌≡◌, ℕ, List, [], ◌∷◌, ◌++◌, length, if◌then◌else◌, not, Bool, true, false, Option, None, Some, unwrap_or, option_and_then, slice_set, Result, Ok, Err}
 use Rattle.val_core.specs.declared.values.Value.{Value}
 use Rattle.val_core.specs.declared.values.Value.TheVariants.{Num, Bad}
 use Rattle.val_core.specs.Words.{one_if}
@@ -7,7 +7,7 @@ use Rattle.val_core.specs.Memory.{Memory, load, store}
 use Rattle.val_core.specs.Answers.{Answer, Cut, Exited, Undefined, then_on, on_defined}
 use Rattle.c_type.specs.Trees.{TypeTree}
 use Rattle.c_typed.specs.declared.operator.IncDec.{IncDec}
-use Rattle.c_typed.specs.Typed.{ExprTree, ExprTrees, StmtTree, loop, do_while, VariableTree, ProgramTree}
+use Rattle.c_typed.specs.Typed.{ExprTree, ExprTrees, InitialTree, ItemTrees, StmtTree, loop, do_while, VariableTree, ProgramTree}
 use Rattle.c_typed.specs.WellTyped.{type_of}
 use Rattle.c_typed.specs.Objects.{object_number, access_width}
 use Rattle.c_mean.specs.State.{Slot, holds, object, converted, extended}
@@ -18,7 +18,8 @@ use Rattle.c_mean.specs.Expressions.{branched}
 use Rattle.c_mean.specs.Statements.{Flow, normal, returned}
 use Rattle.c_interp_def.specs.Configurations.{Configuration, Reached, reaches, with_slots, with_operands, on_operand}
 use Rattle.c_interp_def.specs.ExprTasks.{evaluate, pass_each, use_it, test}
-use Rattle.c_interp_def.specs.StmtTasks.{Task, of_expr, task_run, tasks_run}
+use Rattle.c_interp_def.specs.StmtTasks.{Task, of_expr, of_stmt, handler, run_items, end_scope, value_tasks, task_run, tasks_run}
+use Rattle.c_interp_def.specs.declared.task.Flow.TheVariants.{Normal}
 use Rattle.c_interp_def.specs.Laws.{normally, tasks_or_cut}
 use Rattle.c_interp_def.specs.CallLaws.{IsHeardAs}
 use Rattle.c_interp_expand.specs.TaskViews.{tasks_of}
@@ -31,14 +32,14 @@ use Rattle.c_interp.specs.Machines.{config_of, reached_of, IsHeld}
 abbrev pub IsEnd : Answer Reached → Answer Reached → Type 0
 IsEnd a b = (rest : Reached → Answer Reached) → IsHeardAs (then_on a rest) b
 
--- The run ends so. Nothing is said where memory is out.
-abbrev pub IsStopped : Stop → Answer Reached → Type 0
-IsStopped (stop.Exit status) a = IsEnd a (Exited [] status)
-IsStopped stop.Cut a = IsEnd a (Cut [])
-IsStopped stop.Undefined a = IsEnd a (Undefined [])
-IsStopped stop.ReadFault a = ⊥
-IsStopped stop.WriteFault a = ⊥
-IsStopped stop.NoMemory a = Unit {0}
+-- The run ends so, with this status where it exits. Nothing is said where memory is out.
+abbrev pub IsStopped : (status : ℕ) → Stop → Answer Reached → Type 0
+IsStopped status stop.Exit a = IsEnd a (Exited [] status)
+IsStopped status stop.Cut a = IsEnd a (Cut [])
+IsStopped status stop.Undefined a = IsEnd a (Undefined [])
+IsStopped status stop.ReadFault a = ⊥
+IsStopped status stop.WriteFault a = ⊥
+IsStopped status stop.NoMemory a = Unit {0}
 
 -- The machine holds a memory, and what a task comes to on an input is heard as what the tasks come to that were put.
 pub record IsDone (p : ProgramTree) (n : ℕ) (old new : Machine) (a : List ℕ → Answer Reached) : Type 0 where
@@ -52,7 +53,7 @@ pub record IsDone (p : ProgramTree) (n : ℕ) (old new : Machine) (a : List ℕ 
 -- A step that neither reads nor writes, of a task that does this.
 abbrev pub IsStep : ProgramTree → (bound : ℕ) → Result Unit Stop → (old new : Machine) → (Configuration → Answer Reached) → Type 0
 IsStep p n (Ok u) old new run = (m : Memory) → IsHeld p old m → IsDone p n old new (λ i. run (config_of old m i))
-IsStep p n (Err s) old new run = (m : Memory) → IsHeld p old m → (i : List ℕ) → IsStopped s (run (config_of old m i))
+IsStep p n (Err s) old new run = (m : Memory) → IsHeld p old m → (i : List ℕ) → IsStopped new.status s (run (config_of old m i))
 
 -- a task, where this jump or none is on its way
 abbrev pub task_from : ProgramTree → (bound : ℕ) → Task → Flow → Configuration → Answer Reached
@@ -112,6 +113,25 @@ abbrev pub set_run : (slot : ℕ) → Option Value → (given : Option Value) �
 set_run k v given x =
     on_defined v (λ w. reaches normal (with_operands (with_frame_slots x (slice_set x.frame.slots k (holds w))) (unwrap_or given w ∷ x.operands)))
 
+-- A value variable comes into scope and begins so, and then these items are run.
+abbrev pub declared : Configuration → Configuration
+declared x = with_frame_slots x (x.frame.slots ++ holds Bad ∷ [])
+
+abbrev pub declared_do : ProgramTree → (bound : ℕ) → InitialTree → ItemTrees → Configuration → Answer Reached
+declared_do p n i is x =
+    then_on (tasks_do p n (of_stmt (run_items is) ∷ value_tasks i) (declared x)) (task_run p n (handler (end_scope (length x.frame.slots))))
+
+-- The machine did this and put no task, or it stays as it was.
+pub record IsMoved (p : ProgramTree) (n : ℕ) (old new : Machine) (run : Configuration → Answer Reached) : Type 0 where
+  pub tasks : new.tasks ≡ old.tasks
+  pub flow : new.flow ≡ Normal
+  pub to : (m : Memory) → IsHeld p old m → (k : Memory) × IsHeld p new k × ((i : List ℕ) → run (config_of old m i) ≡ reaches normal (config_of new k i))
+
+abbrev pub IsPerformed : ProgramTree → (bound : ℕ) → Result Bool Stop → (old new : Machine) → (Configuration → Answer Reached) → Type 0
+IsPerformed p n (Ok true) old new run = IsMoved p n old new run
+IsPerformed p n (Ok false) old new run = new ≡ old
+IsPerformed p n (Err s) old new run = IsStep p n (Err s) old new run
+
 -- ---- values
 
 -- the number that a value is
@@ -165,6 +185,11 @@ asked_do t next x = on_operand x (λ v y. branched t v (next y) (reaches normal 
 abbrev pub slot_begun : List VariableTree → (variable : ℕ) → Option VariableTree → Option Slot
 slot_begun vs k None = None
 slot_begun vs k (Some v) = Some (if v.is_object then object (object_number vs k) else holds Bad)
+
+-- the variable is there and no object
+abbrev pub is_value : Option VariableTree → Bool
+is_value None = false
+is_value (Some v) = not v.is_object
 
 abbrev pub IsSomeHeld : List Opened → Option Memory → Store → Type 0
 IsSomeHeld calls None s = ⊥

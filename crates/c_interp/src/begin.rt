@@ -12,7 +12,7 @@ ghost use Rattle.c_interp_def.specs.declared.task.Flow.TheVariants.{Normal};
 ghost use Rattle.c_interp_def.specs.StmtTasks as stmt;
 ghost use Rattle.c_interp_def.specs.StmtTasks.{stmt_task_run};
 ghost use Rattle.c_interp_layout.specs.Laid.{IsLaid};
-ghost use Rattle.c_interp.specs.Steps.{IsStep, slot_begun, IsStored};
+ghost use Rattle.c_interp.specs.Steps.{IsStep, slot_begun, is_value, IsStored};
 
 use crate::machine::{Machine, Program};
 use crate::operands::store;
@@ -38,6 +38,17 @@ fn slot_begun<'a>(program: Program<'a>, function: u32, variable: u32) -> Option<
         Some(v) if v.is_object => Some(Slot::Object(numbers[variable as usize])),
         Some(_) => Some(Slot::Holds(Value::Bad)),
         None => None,
+    }
+}
+
+/// Whether this is a variable of a function that is no object.
+pub(crate) fn is_value<'a>(program: Program<'a>, function: u32, variable: u32) -> bool
+    requires laid { IsLaid program.typed.now program.layouts.now }
+    ensures { result ≡ is_value (slice_get (variables_of program.entry.typed.now function) variable) }
+{
+    match variables(program, function).get(variable as usize) {
+        Some(v) => !v.is_object,
+        None => false,
     }
 }
 

@@ -1,6 +1,6 @@
 //! Calls that begin and end (ISO/IEC 9899:2011, 6.5.2.2, 6.9.1).
 
-ghost use Rattle.std.specs.Prelude.{◌≡◌, ℕ, ◌<◌, ◌^◌, Some, List, IfOk, length, slice_get, slice_index_or};
+ghost use Rattle.std.specs.Prelude.{◌≡◌, ℕ, ◌<◌, ◌^◌, [], Some, List, IfOk, length, slice_get, slice_index_or};
 ghost use Rattle.val_core.specs.declared.values.Value.TheVariants.{Bad};
 ghost use Rattle.val_core.specs.Memory.{Memory};
 ghost use Rattle.val_core.specs.Objects.{address_in};
@@ -27,6 +27,7 @@ use c_interp_def::{Flow, Handler, Slot, StmtTask, Task};
 use c_interp_store::Store;
 use c_interp_value::access_width;
 use c_typed::{TFunction, Variable};
+use no_memory::NoMemory;
 use std::alloc::Global;
 use std::mem::replace;
 use val_core::Value;
@@ -37,7 +38,6 @@ const MOST_BLOCKS: u64 = 0x8000_0000_0000_0000;
 /// Calls a function with so many of the newest operands.
 pub(crate) fn call<'a>(
     machine: &mut Machine<'a>,
-    alloc: Global,
     program: Program<'a>,
     function: u32,
     count: usize,
@@ -54,7 +54,7 @@ pub(crate) fn call<'a>(
     let Some(f) = typed.functions.get(function as usize) else {
         return Err(Stop::Undefined);
     };
-    match frame_of(machine, alloc, program, function, f, count) {
+    match frame_of(machine, program, function, f, count) {
         Ok(active) => enter(machine, active, f),
         Err(stop) => Err(stop),
     }
@@ -63,7 +63,6 @@ pub(crate) fn call<'a>(
 // The frame of a call of this function. Its blocks are opened, and its arguments taken.
 fn frame_of<'a>(
     machine: &mut Machine<'a>,
-    alloc: Global,
     program: Program<'a>,
     function: u32,
     f: &'a TFunction,
@@ -78,14 +77,15 @@ fn frame_of<'a>(
     let Some(layout) = layouts.functions.get(function as usize) else {
         return Err(Stop::Undefined);
     };
-    let objects = machine.store.open(alloc, &layout.shapes)?;
+    let objects = machine.store.open(program.alloc, &layout.shapes)?;
     if objects.first >= MOST_BLOCKS {
         return Err(Stop::NoMemory);
     }
     let first = machine.operands.len().saturating_sub(count);
     let params = (f.params as usize).min(f.variables.len());
+    let slots = blank_slots(&mut machine.spare, program.alloc, params)?;
     let taken = take_arguments(
-        alloc,
+        slots,
         program,
         function,
         objects.first,
@@ -108,10 +108,22 @@ fn frame_of<'a>(
     }
 }
 
+// A list without slots, with room for so many: the spare one, where that has it.
+fn blank_slots(spare: &mut Vec<Slot>, alloc: Global, count: usize) -> Result<Vec<Slot>, NoMemory>
+    ensures { IfOk result (λ slots. slots.items ≡ []) }
+{
+    if spare.capacity() < count {
+        return Ok(Vec::with_capacity(alloc, count)?);
+    }
+    let mut slots = replace(spare, Vec::new(alloc));
+    slots.truncate(0);
+    Ok(slots)
+}
+
 // The parameters in scope as a call begins, whose blocks are numbered from `first` on. Those that
 // are objects are stored.
 fn take_arguments<'a>(
-    alloc: Global,
+    mut slots: Vec<Slot>,
     program: Program<'a>,
     function: u32,
     first: u64,
@@ -122,6 +134,7 @@ fn take_arguments<'a>(
     requires laid { IsLaid program.typed.now program.layouts.now }
     requires fit { first < 2 ^ 63 }
     requires few { length params.now < 2 ^ 32 }
+    requires blank { slots.items ≡ [] }
     ensures stored { (calls : List Opened) (m : Memory) → Holds store.old calls m →
         IsStored calls (params_stored (address_in first
         (object_sizes program.entry.typed.now (variables_of program.entry.typed.now function)))
@@ -129,7 +142,6 @@ fn take_arguments<'a>(
     ensures slots { IfOk result (λ slots. slots_of slots.items
         ≡ params_in_scope 0 params.now arguments.now) }
 {
-    let mut slots = Vec::with_capacity(alloc, params.len())?;
     let mut number = 0;
     for i in 0..params.len() {
         let v = argument_at(arguments, i);
@@ -197,7 +209,8 @@ pub(crate) fn end_call<'a>(machine: &mut Machine<'a>, program: Program<'a>) -> R
     };
     machine.store.close(machine.frame.objects);
     machine.frame = caller.frame;
-    machine.slots = caller.slots;
+    let slots = replace(&mut machine.slots, caller.slots);
+    machine.spare = slots;
     machine.flow = Flow::Normal;
     give(machine, Some(value))
 }

@@ -200,8 +200,8 @@ pub(crate) fn choose_by<'a>(
     )
 }
 
-// What is read at an address.
-fn loaded(store: &Store, t: &CType, at: Value) -> Option<Value>
+/// What is read at an address.
+pub(crate) fn loaded(store: &Store, t: &CType, at: Value) -> Option<Value>
     ensures { (calls : List Opened) (m : Memory) → Holds store.now calls m →
         result ≡ loaded_value t.now at m }
 {

@@ -1,11 +1,14 @@
 //! What is known of an expression at once, where the machine stands.
 
-ghost use Rattle.std.specs.Prelude.{ℕ};
+ghost use Rattle.std.specs.Prelude.{◌≡◌, ℕ, slice_get};
+ghost use Rattle.c_interp_expand.specs.TaskViews.{slots_of};
 ghost use Rattle.c_interp_layout.specs.Laid.{IsLaid};
-ghost use Rattle.c_interp_answer.specs.Answered.{IsValue, IsTruth, IsAddress, IsWritten};
+ghost use Rattle.c_interp_answer.specs.Answered.{IsValue, IsTruth, IsAddress, IsWritten, place_slot};
 ghost use Rattle.c_interp.specs.Known.{Shows, Knows};
+ghost use Rattle.c_interp.specs.Steps.{slot_read};
 
 use crate::machine::{Machine, Program};
+use crate::variable::slot_read;
 use c_interp_answer::{Assignment, Scope};
 use c_typed::{TExpr, TPlace};
 use val_core::Value;
@@ -37,6 +40,7 @@ pub(crate) fn known<'a>(machine: &Machine<'a>, program: Program<'a>, e: &TExpr) 
 }
 
 /// Whether an expression is true.
+#[inline(always)]
 pub(crate) fn known_truth<'a>(
     machine: &Machine<'a>,
     program: Program<'a>,
@@ -73,4 +77,18 @@ pub(crate) fn known_written<'a>(
         (λ c s. IsWritten c e.now s result) }
 {
     c_interp_answer::written(&scope_of(machine, program), e, DEPTH)
+}
+
+/// The slot of a value variable, where the place is one.
+pub(crate) fn slot_of<'a>(machine: &Machine<'a>, p: &TPlace) -> Option<u32>
+    ensures { result ≡ place_slot (slots_of machine.now.slots.items) p.now }
+{
+    c_interp_answer::value_slot(machine.slots.as_slice(), p)
+}
+
+/// The value of the variable at a slot.
+pub(crate) fn slot_value<'a>(machine: &Machine<'a>, slot: u32) -> Option<Value>
+    ensures { result ≡ slot_read (slice_get (slots_of machine.now.slots.items) slot) }
+{
+    slot_read(machine.slots.as_slice(), slot)
 }

@@ -11,6 +11,7 @@ mod expression;
 mod frame;
 mod known;
 mod machine;
+mod nested;
 mod operands;
 mod part;
 mod perform;

@@ -5,12 +5,14 @@ use c_interp_def::{Flow, Slot, Task};
 use c_interp_layout::Layouts;
 use c_interp_store::Store;
 use c_typed::Typed;
+use std::alloc::Global;
 use val_core::Value;
 
-/// What stays while a program runs: the typed program, its layouts, and how many turns a loop may
-/// take.
+/// What stays while a program runs: the allocator, the typed program, its layouts, and how many
+/// turns a loop may take.
 #[derive(Clone, Copy)]
 pub(crate) struct Program<'a> {
+    pub(crate) alloc: Global,
     pub(crate) typed: &'a Typed,
     pub(crate) layouts: &'a Layouts,
     pub(crate) bound: u64,
@@ -18,7 +20,8 @@ pub(crate) struct Program<'a> {
 
 /// The state of a run: the tasks that are left, the last of which is done first, the operands, the
 /// newest last, the newest call, its variables in scope, and the calls that wait for it, the newest
-/// last, the jump that is on its way, and the memory.
+/// last, the jump that is on its way, the memory, the status with which the program ends, and a list
+/// of slots that a call has left.
 #[derive(Drop)]
 pub(crate) struct Machine<'a> {
     pub(crate) tasks: Vec<Task<'a>>,
@@ -28,4 +31,6 @@ pub(crate) struct Machine<'a> {
     pub(crate) callers: Vec<Active>,
     pub(crate) flow: Flow,
     pub(crate) store: Store,
+    pub(crate) status: u8,
+    pub(crate) spare: Vec<Slot>,
 }

@@ -1,51 +1,25 @@
-//! Places, and expressions whose values are dropped.
+//! Expressions whose values are dropped.
 
-ghost use Rattle.std.specs.Prelude.{◌≡◌, ℕ};
-ghost use Rattle.c_typed.specs.Typed.{some_expr, ProgramTree};
+ghost use Rattle.std.specs.Prelude.{◌≡◌, ℕ, Some};
+ghost use Rattle.c_typed.specs.Typed.{expr, assign, inc_dec, some_expr, ProgramTree};
 ghost use Rattle.c_interp_def.specs.declared.task.Flow.TheVariants.{Normal};
-ghost use Rattle.c_interp_def.specs.ExprTasks as task;
-ghost use Rattle.c_interp_def.specs.ExprTasks.{expr_task_run};
 ghost use Rattle.c_interp_def.specs.StmtTasks.{optional_tasks};
+ghost use Rattle.c_interp_expand.specs.TaskViews.{slots_of};
 ghost use Rattle.c_interp_layout.specs.Laid.{IsLaid};
-ghost use Rattle.c_interp.specs.Steps.{IsStep, tasks_do};
+ghost use Rattle.c_interp_answer.specs.Answered.{place_slot};
+ghost use Rattle.c_interp.specs.Steps.{IsStep, IsPerformed, tasks_do};
 
-use crate::evaluate::evaluate;
-use crate::known::{known, known_address, known_written};
+use crate::evaluate::evaluate_unknown;
+use crate::expression::incremented;
+use crate::known::{known, known_address, known_written, slot_of, slot_value};
 use crate::machine::{Machine, Program};
-use crate::operands::{give_value, store};
 use crate::stop::Stop;
 use crate::variable::set_slot;
 use c_interp_def::{ExprTask, Task};
-use c_interp_value::used;
-use c_typed::{ExprForm, TExpr, TPlace};
+use c_interp_value::{access_width, used};
+use c_type::CType;
+use c_typed::{ExprForm, IncDec, TExpr, TPlace};
 use val_core::Value;
-
-/// A place, whose address becomes an operand.
-pub(crate) fn locate<'a>(
-    machine: &mut Machine<'a>,
-    program: Program<'a>,
-    q: &'a TPlace,
-) -> Result<(), Stop>
-    requires laid { IsLaid program.typed.now program.layouts.now }
-    requires normal { machine.old.flow ≡ Normal }
-    ensures { (n : ℕ) → IsStep program.entry.typed.now n result machine.old machine.new
-        (expr_task_run program.entry.typed.now n (task.locate q.now)) }
-{
-    match known_address(machine, program, q) {
-        Some(at) => give_value(machine, at),
-        None => find(machine, q),
-    }
-}
-
-// A place whose address is not known at once.
-fn find<'a>(machine: &mut Machine<'a>, q: &'a TPlace) -> Result<(), Stop>
-    requires { machine.old.flow ≡ Normal }
-    ensures { (p : ProgramTree) (n : ℕ)
-        → IsStep p n result machine.old machine.new (expr_task_run p n (task.locate q.now)) }
-{
-    c_interp_expand::locate(q, &mut machine.tasks)?;
-    Ok(())
-}
 
 /// An expression whose value is dropped.
 pub(crate) fn perform<'a>(
@@ -58,39 +32,148 @@ pub(crate) fn perform<'a>(
     ensures { (n : ℕ) → IsStep program.entry.typed.now n result machine.old machine.new
         (tasks_do program.entry.typed.now n (optional_tasks (some_expr e.now))) }
 {
-    match known_written(machine, program, e) {
-        Some(w) => {
-            set_slot(&mut machine.slots, w.slot, Value::Num(w.word));
-            Ok(())
-        }
-        None => perform_more(machine, program, e),
+    match performed(machine, program, e) {
+        Ok(true) => Ok(()),
+        Ok(false) => evaluate_and_drop(machine, program, e),
+        Err(stop) => Err(stop),
     }
 }
 
-/// The same, where it does not assign a known number to a variable.
-pub(crate) fn perform_more<'a>(
+/// Whether an expression whose value is dropped assigns what is known at once; that is then done,
+/// and else nothing.
+#[inline(always)]
+pub(crate) fn performed<'a>(
     machine: &mut Machine<'a>,
     program: Program<'a>,
     e: &'a TExpr,
-) -> Result<(), Stop>
+) -> Result<bool, Stop>
     requires laid { IsLaid program.typed.now program.layouts.now }
     requires normal { machine.old.flow ≡ Normal }
-    ensures { (n : ℕ) → IsStep program.entry.typed.now n result machine.old machine.new
+    ensures { (n : ℕ) → IsPerformed program.entry.typed.now n result machine.old machine.new
         (tasks_do program.entry.typed.now n (optional_tasks (some_expr e.now))) }
 {
-    match &e.form {
-        ExprForm::Assign(p, a) => match known_address(machine, program, p) {
-            Some(at) => match known(machine, program, a) {
-                Some(v) => store(machine, &e.ty, at, used(v)),
-                None => evaluate_and_drop(machine, program, e),
-            },
-            None => evaluate_and_drop(machine, program, e),
-        },
-        _ => evaluate_and_drop(machine, program, e),
+    match known_written(machine, program, e) {
+        Some(w) => {
+            set_slot(&mut machine.slots, w.slot, Value::Num(w.word));
+            Ok(true)
+        }
+        None => performed_more(machine, program, e),
     }
 }
 
-fn evaluate_and_drop<'a>(
+// The same, where it does not assign a known number to a variable.
+#[inline(never)]
+fn performed_more<'a>(
+    machine: &mut Machine<'a>,
+    program: Program<'a>,
+    e: &'a TExpr,
+) -> Result<bool, Stop>
+    requires laid { IsLaid program.typed.now program.layouts.now }
+    requires normal { machine.old.flow ≡ Normal }
+    ensures { (n : ℕ) → IsPerformed program.entry.typed.now n result machine.old machine.new
+        (tasks_do program.entry.typed.now n (optional_tasks (some_expr e.now))) }
+{
+    match &e.form {
+        ExprForm::Assign(p, a) => assigned(machine, program, &e.ty, p, a),
+        ExprForm::IncDec(step, p) => stepped(machine, &e.ty, *step, p),
+        _ => Ok(false),
+    }
+}
+
+// An assignment.
+fn assigned<'a>(
+    machine: &mut Machine<'a>,
+    program: Program<'a>,
+    t: &CType,
+    p: &'a TPlace,
+    a: &'a TExpr,
+) -> Result<bool, Stop>
+    requires laid { IsLaid program.typed.now program.layouts.now }
+    requires normal { machine.old.flow ≡ Normal }
+    ensures { (n : ℕ) → IsPerformed program.entry.typed.now n result machine.old machine.new
+        (tasks_do program.entry.typed.now n (optional_tasks (some_expr (expr t.now (assign p.now a.now))))) }
+{
+    match slot_of(machine, p) {
+        Some(k) => assigned_slot(machine, program, t, p, a, k),
+        None => stored(machine, program, t, p, a),
+    }
+}
+
+// The same to the variable at a slot.
+fn assigned_slot<'a>(
+    machine: &mut Machine<'a>,
+    program: Program<'a>,
+    t: &CType,
+    p: &'a TPlace,
+    a: &'a TExpr,
+    k: u32,
+) -> Result<bool, Stop>
+    requires laid { IsLaid program.typed.now program.layouts.now }
+    requires normal { machine.old.flow ≡ Normal }
+    requires at { Some k ≡ place_slot (slots_of machine.old.slots.items) p.now }
+    ensures { (n : ℕ) → IsPerformed program.entry.typed.now n result machine.old machine.new
+        (tasks_do program.entry.typed.now n (optional_tasks (some_expr (expr t.now (assign p.now a.now))))) }
+{
+    let Some(v) = known(machine, program, a) else {
+        return Ok(false);
+    };
+    let Some(w) = used(v) else {
+        return Err(Stop::Undefined);
+    };
+    set_slot(&mut machine.slots, k, w);
+    Ok(true)
+}
+
+// The same to an object.
+fn stored<'a>(
+    machine: &mut Machine<'a>,
+    program: Program<'a>,
+    t: &CType,
+    p: &'a TPlace,
+    a: &'a TExpr,
+) -> Result<bool, Stop>
+    requires laid { IsLaid program.typed.now program.layouts.now }
+    requires normal { machine.old.flow ≡ Normal }
+    ensures { (n : ℕ) → IsPerformed program.entry.typed.now n result machine.old machine.new
+        (tasks_do program.entry.typed.now n (optional_tasks (some_expr (expr t.now (assign p.now a.now))))) }
+{
+    let Some(at) = known_address(machine, program, p) else {
+        return Ok(false);
+    };
+    let Some(v) = known(machine, program, a) else {
+        return Ok(false);
+    };
+    let Some(w) = used(v) else {
+        return Err(Stop::Undefined);
+    };
+    if machine.store.store(access_width(t), at, w) {
+        Ok(true)
+    } else {
+        Err(Stop::Undefined)
+    }
+}
+
+// `++` or `--`.
+fn stepped<'a>(machine: &mut Machine<'a>, t: &CType, step: IncDec, p: &TPlace) -> Result<bool, Stop>
+    requires { machine.old.flow ≡ Normal }
+    ensures { (q : ProgramTree) (n : ℕ) → IsPerformed q n result machine.old machine.new
+        (tasks_do q n (optional_tasks (some_expr (expr t.now (inc_dec step p.now))))) }
+{
+    let Some(k) = slot_of(machine, p) else {
+        return Ok(false);
+    };
+    let Some(old) = slot_value(machine, k) else {
+        return Err(Stop::Undefined);
+    };
+    let Some(w) = incremented(&machine.store, step, t, old) else {
+        return Err(Stop::Undefined);
+    };
+    set_slot(&mut machine.slots, k, w);
+    Ok(true)
+}
+
+/// An expression whose value is dropped and that is not performed at once.
+pub(crate) fn evaluate_and_drop<'a>(
     machine: &mut Machine<'a>,
     program: Program<'a>,
     e: &'a TExpr,
@@ -101,5 +184,5 @@ fn evaluate_and_drop<'a>(
         (tasks_do program.entry.typed.now n (optional_tasks (some_expr e.now))) }
 {
     machine.tasks.push(Task::OfExpr(ExprTask::Discard))?;
-    evaluate(machine, program, e)
+    evaluate_unknown(machine, program, e)
 }

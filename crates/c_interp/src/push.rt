@@ -32,6 +32,22 @@ pub(crate) fn put2<'a>(machine: &mut Machine<'a>, a: Task<'a>, b: Task<'a>) -> R
     Ok(())
 }
 
+/// Three more tasks, the last of which is done first.
+pub(crate) fn put3<'a>(
+    machine: &mut Machine<'a>,
+    a: Task<'a>,
+    b: Task<'a>,
+    c: Task<'a>,
+) -> Result<(), Stop>
+    requires { machine.old.flow ≡ Normal }
+    ensures { (p : ProgramTree) (n : ℕ)
+        → IsStep p n result machine.old machine.new
+        (tasks_do p n (task_of a.entry ∷ task_of b.entry ∷ task_of c.entry ∷ [])) }
+{
+    machine.tasks.push(a)?;
+    put2(machine, b, c)
+}
+
 /// One of two tasks, where it is known which.
 pub(crate) fn choose<'a>(
     machine: &mut Machine<'a>,

@@ -5,7 +5,7 @@ ghost use Rattle.c_typed.specs.WellTyped.{IsWellTyped};
 ghost use Rattle.cc_io.specs.Faults.{Increased};
 ghost use Rattle.c_interp_layout.specs.Laid.{IsLaid};
 ghost use Rattle.c_interp.specs.Interpreted.{HasEnded, IsPart};
-ghost use Rattle.c_interp.specs.Begun.{HasBegun, stop_of};
+ghost use Rattle.c_interp.specs.Begun.{HasBegun, HasStopped};
 ghost use Rattle.c_interp.specs.declared.stop.Stop.TheVariants as AnyStop;
 
 use crate::frame::Frame;
@@ -53,21 +53,23 @@ pub fn interpret<I: Source, O: Sink>(
 {
     let layouts = lay_out(alloc, typed)?;
     let program = Program {
+        alloc,
         typed,
         layouts: &layouts,
         bound,
     };
-    let mut machine = machine_of(alloc, program)?;
-    run(alloc, program, &mut machine, input, output)
+    let mut machine = machine_of(program)?;
+    run(program, &mut machine, input, output)
 }
 
 // The machine as a program begins.
-fn machine_of<'a>(alloc: Global, program: Program<'a>) -> Result<Machine<'a>, NoMemory>
+fn machine_of<'a>(program: Program<'a>) -> Result<Machine<'a>, NoMemory>
     requires laid { IsLaid program.typed.now program.layouts.now }
     requires typed { IsWellTyped program.typed.now }
     requires most { program.bound ≤ 1000000 }
     ensures { IfOk result (HasBegun program.entry.typed.now program.entry.bound) }
 {
+    let alloc = program.alloc;
     let typed = program.typed;
     let store = first_memory(alloc, typed, program.layouts)?;
     let mut tasks = Vec::new(alloc);
@@ -88,12 +90,13 @@ fn machine_of<'a>(alloc: Global, program: Program<'a>) -> Result<Machine<'a>, No
         callers: Vec::new(alloc),
         flow: Flow::Normal,
         store,
+        status: 0,
+        spare: Vec::new(alloc),
     })
 }
 
 // Does the tasks that are left, and those that they come to.
 fn run<'a, I: Source, O: Sink>(
-    alloc: Global,
     program: Program<'a>,
     machine: &mut Machine<'a>,
     input: &mut I,
@@ -119,19 +122,19 @@ fn run<'a, I: Source, O: Sink>(
         let Some(task) = machine.tasks.pop() else {
             return Ok(Ending::Undefined);
         };
-        match step(machine, alloc, program, task, input, &mut at_end, output) {
+        match step(machine, program, task, input, &mut at_end, output) {
             Ok(()) => {}
-            Err(stop) => return ending_of(stop),
+            Err(stop) => return ending_of(stop, machine.status),
         }
     }
     Err(NoMemory)
 }
 
-fn ending_of(stop: Stop) -> Result<Ending, NoMemory>
-    ensures { MatchResult result (λ e. stop ≡ stop_of e) (λ _. stop ≡ AnyStop.NoMemory) }
+fn ending_of(stop: Stop, status: u8) -> Result<Ending, NoMemory>
+    ensures { MatchResult result (λ e. HasStopped stop status e) (λ _. stop ≡ AnyStop.NoMemory) }
 {
     match stop {
-        Stop::Exit(status) => Ok(Ending::Exit(status)),
+        Stop::Exit => Ok(Ending::Exit(status)),
         Stop::Cut => Ok(Ending::Cut),
         Stop::Undefined => Ok(Ending::Undefined),
         Stop::ReadFault => Ok(Ending::ReadFault),

@@ -1,22 +1,21 @@
 //! Tasks of statements (ISO/IEC 9899:2011, 6.8).
 
-ghost use Rattle.std.specs.Prelude.{◌≡◌, ◌≤◌, ℕ, [], ◌∷◌, length, drop};
-ghost use Rattle.c_typed.specs.Typed.{ProgramTree, if_else, return_value};
+ghost use Rattle.std.specs.Prelude.{◌≡◌, ◌≤◌, ℕ, [], length, drop};
+ghost use Rattle.c_typed.specs.Typed.{ProgramTree, return_value};
 ghost use Rattle.c_typed.specs.StmtViews.{groups_of, items_of};
 ghost use Rattle.c_mean.specs.Statements.{chosen_groups, from_default};
 ghost use Rattle.c_interp_expand.specs.TaskViews.{flow_of};
 ghost use Rattle.c_interp_def.specs.Configurations.{variables_of};
 ghost use Rattle.c_interp_def.specs.declared.task.Flow.TheVariants.{Normal};
 ghost use Rattle.c_interp_def.specs.StmtTasks as stmt;
-ghost use Rattle.c_interp_def.specs.StmtTasks.{of_stmt, stmt_task_run};
+ghost use Rattle.c_interp_def.specs.StmtTasks.{stmt_task_run};
 ghost use Rattle.c_interp_layout.specs.Laid.{AreNumbers, IsLaid};
-ghost use Rattle.c_interp.specs.Steps.{IsStep, tasks_do, return_run};
+ghost use Rattle.c_interp.specs.Steps.{IsStep, return_run};
 
-use crate::evaluate::evaluate;
-use crate::known::{known, known_truth};
+use crate::evaluate::evaluate_unknown;
+use crate::known::known;
 use crate::machine::{Machine, Program};
 use crate::operands::number;
-use crate::perform::perform;
 use crate::push::{choose, put};
 use crate::stop::Stop;
 use c_interp_def::{Flow, Stage, StmtTask, Task};
@@ -49,29 +48,8 @@ pub(crate) fn numbers<'a>(program: Program<'a>, function: u32) -> &'a [u32]
     }
 }
 
-/// A statement.
-pub(crate) fn run_stmt<'a>(
-    machine: &mut Machine<'a>,
-    program: Program<'a>,
-    a: &'a TStmt,
-) -> Result<(), Stop>
-    requires laid { IsLaid program.typed.now program.layouts.now }
-    requires normal { machine.old.flow ≡ Normal }
-    ensures { IsStep program.entry.typed.now program.entry.bound result machine.old machine.new
-        (stmt_task_run program.entry.typed.now program.entry.bound (stmt.run_stmt a.now)) }
-{
-    match &a.form {
-        StmtForm::Value(e) => perform(machine, program, e),
-        StmtForm::IfElse(e, then, otherwise) => {
-            choose_stmt(machine, program, a, e, then, otherwise)
-        }
-        StmtForm::ReturnValue(e) => return_value(machine, program, e),
-        _ => expand(machine, program.bound, a),
-    }
-}
-
-// A statement that becomes tasks.
-fn expand<'a>(machine: &mut Machine<'a>, bound: u64, a: &'a TStmt) -> Result<(), Stop>
+/// A statement that becomes tasks.
+pub(crate) fn expand<'a>(machine: &mut Machine<'a>, bound: u64, a: &'a TStmt) -> Result<(), Stop>
     requires { machine.old.flow ≡ Normal }
     ensures { (p : ProgramTree) → IsStep p bound result machine.old machine.new
         (stmt_task_run p bound (stmt.run_stmt a.now)) }
@@ -80,38 +58,8 @@ fn expand<'a>(machine: &mut Machine<'a>, bound: u64, a: &'a TStmt) -> Result<(),
     Ok(())
 }
 
-// An `if` statement.
-fn choose_stmt<'a>(
-    machine: &mut Machine<'a>,
-    program: Program<'a>,
-    a: &'a TStmt,
-    e: &'a TExpr,
-    body: &'a TStmt,
-    otherwise: &'a TStmt,
-) -> Result<(), Stop>
-    requires laid { IsLaid program.typed.now program.layouts.now }
-    requires normal { machine.old.flow ≡ Normal }
-    requires is { a.now ≡ if_else e.now body.now otherwise.now }
-    ensures { (n : ℕ) → IsStep program.entry.typed.now n result machine.old machine.new
-        (stmt_task_run program.entry.typed.now n (stmt.run_stmt a.now)) }
-{
-    match known_truth(machine, program, e) {
-        Some(true) => put(machine, Task::OfStmt(StmtTask::OnStmt(Stage::Run, body))),
-        Some(false) => put(
-            machine,
-            Task::OfStmt(StmtTask::OnStmt(Stage::Run, otherwise)),
-        ),
-        None => {
-            machine
-                .tasks
-                .push(Task::OfStmt(StmtTask::OnStmt(Stage::Branch, a)))?;
-            evaluate(machine, program, e)
-        }
-    }
-}
-
-// A return with the value of an expression.
-fn return_value<'a>(
+/// A return with the value of an expression.
+pub(crate) fn return_value<'a>(
     machine: &mut Machine<'a>,
     program: Program<'a>,
     e: &'a TExpr,
@@ -142,7 +90,7 @@ fn return_later<'a>(
         (stmt_task_run program.entry.typed.now n (stmt.run_stmt (return_value e.now))) }
 {
     machine.tasks.push(Task::OfStmt(StmtTask::ReturnIt))?;
-    evaluate(machine, program, e)
+    evaluate_unknown(machine, program, e)
 }
 
 fn return_known(machine: &mut Machine, v: Value) -> Result<(), Stop>
@@ -157,65 +105,8 @@ fn return_known(machine: &mut Machine, v: Value) -> Result<(), Stop>
     Ok(())
 }
 
-/// The items of a block.
-pub(crate) fn run_items<'a>(
-    machine: &mut Machine<'a>,
-    program: Program<'a>,
-    items: &'a [Item],
-) -> Result<(), Stop>
-    requires laid { IsLaid program.typed.now program.layouts.now }
-    requires normal { machine.old.flow ≡ Normal }
-    ensures { IsStep program.entry.typed.now program.entry.bound result machine.old machine.new
-        (stmt_task_run program.entry.typed.now program.entry.bound (stmt.run_items (items_of items.now))) }
-{
-    match items.split_first() {
-        Some((first, rest)) => run_item(machine, program, items, first, rest),
-        None => Ok(()),
-    }
-}
-
-// The first of these items, and those after it.
-fn run_item<'a>(
-    machine: &mut Machine<'a>,
-    program: Program<'a>,
-    items: &'a [Item],
-    first: &'a Item,
-    rest: &'a [Item],
-) -> Result<(), Stop>
-    requires laid { IsLaid program.typed.now program.layouts.now }
-    requires normal { machine.old.flow ≡ Normal }
-    requires is { items.now ≡ first.now ∷ rest.now }
-    ensures { IsStep program.entry.typed.now program.entry.bound result machine.old machine.new
-        (stmt_task_run program.entry.typed.now program.entry.bound (stmt.run_items (items_of items.now))) }
-{
-    match first {
-        Item::Statement(a) => run_first(machine, program, a, rest),
-        Item::Variable(_) => expand_items(machine, program, items),
-    }
-}
-
-// A statement, and the items after it.
-fn run_first<'a>(
-    machine: &mut Machine<'a>,
-    program: Program<'a>,
-    a: &'a TStmt,
-    rest: &'a [Item],
-) -> Result<(), Stop>
-    requires laid { IsLaid program.typed.now program.layouts.now }
-    requires normal { machine.old.flow ≡ Normal }
-    ensures { IsStep program.entry.typed.now program.entry.bound result machine.old machine.new
-        (tasks_do program.entry.typed.now program.entry.bound (of_stmt (stmt.run_items (items_of rest.now))
-        ∷ of_stmt (stmt.run_stmt a.now) ∷ [])) }
-{
-    if rest.is_empty() {
-        return run_stmt(machine, program, a);
-    }
-    machine.tasks.push(Task::OfStmt(StmtTask::RunItems(rest)))?;
-    run_stmt(machine, program, a)
-}
-
-// Items that become tasks.
-fn expand_items<'a>(
+/// Items that become tasks.
+pub(crate) fn expand_items<'a>(
     machine: &mut Machine<'a>,
     program: Program<'a>,
     items: &'a [Item],

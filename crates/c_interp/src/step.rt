@@ -17,29 +17,27 @@ use crate::begin::{
     begin_characters, begin_element, begin_object, begin_slot, clear_object, enter,
 };
 use crate::calls::{call, end_call};
-use crate::evaluate::{evaluate, pass_each};
+use crate::evaluate::{evaluate, locate, pass_each};
 use crate::expression::{
     and_also, apply_binary, apply_unary, choose_by, compound_at, discard, give_it, load_at,
     load_from, member_at, or_else, step_at, store_at, test, use_it,
 };
 use crate::machine::{Machine, Program};
+use crate::nested::{run_items, run_stmt, run_turns};
 use crate::part::{begin_elements, drop_each, run_groups};
-use crate::perform::locate;
-use crate::statement::{branch, jump, return_it, run_items, run_stmt, select};
+use crate::statement::{branch, jump, return_it, select};
 use crate::stop::Stop;
 use crate::streams::{end_program, read_byte, write_byte};
-use crate::turns::{again, end_scope, end_switch, run_turns, turn_if};
+use crate::turns::{again, end_scope, end_switch, turn_if};
 use crate::variable::{compound_slot, global_at, load_slot, local_at, step_slot, store_slot};
 use c_interp_def::{ExprTask, Flow, Handler, Stage, StmtTask, Task};
 use c_type::CType;
 use c_typed::{TStmt, UnaryOp};
 use cc_io::{Sink, Source};
-use std::alloc::Global;
 
 /// Does one task.
 pub(crate) fn step<'a, I: Source, O: Sink>(
     machine: &mut Machine<'a>,
-    alloc: Global,
     program: Program<'a>,
     task: Task<'a>,
     input: &mut I,
@@ -60,7 +58,7 @@ pub(crate) fn step<'a, I: Source, O: Sink>(
 {
     match task {
         Task::OfExpr(t) => match machine.flow {
-            Flow::Normal => do_expr(machine, alloc, program, t, input, at_end, output),
+            Flow::Normal => do_expr(machine, program, t, input, at_end, output),
             _ => Ok(()),
         },
         Task::OfStmt(t) => stmt_unless_jump(machine, program, t),
@@ -70,7 +68,6 @@ pub(crate) fn step<'a, I: Source, O: Sink>(
 
 fn do_expr<'a, I: Source, O: Sink>(
     machine: &mut Machine<'a>,
-    alloc: Global,
     program: Program<'a>,
     task: ExprTask<'a>,
     input: &mut I,
@@ -94,7 +91,7 @@ fn do_expr<'a, I: Source, O: Sink>(
         ExprTask::ReadByte => read_byte(machine, input, at_end, output),
         ExprTask::WriteByte => write_byte(machine, output),
         ExprTask::Unary(op, t, u) => do_unary(machine, op, t, u, output),
-        _ => do_quiet(machine, alloc, program, task),
+        _ => do_quiet(machine, program, task),
     }
 }
 
@@ -126,7 +123,6 @@ fn do_unary<O: Sink>(
 // The tasks of expressions that neither read nor write.
 fn do_quiet<'a>(
     machine: &mut Machine<'a>,
-    alloc: Global,
     program: Program<'a>,
     task: ExprTask<'a>,
 ) -> Result<(), Stop>
@@ -162,7 +158,7 @@ fn do_quiet<'a>(
         ExprTask::CompoundSlot(k, op, t, u) => compound_slot(machine, k, op, t, u),
         ExprTask::StepSlot(k, step, t) => step_slot(machine, k, step, t),
         ExprTask::EndProgram => end_program(machine),
-        ExprTask::Call(f, count) => call(machine, alloc, program, f, count),
+        ExprTask::Call(f, count) => call(machine, program, f, count),
         ExprTask::ReadByte | ExprTask::WriteByte | ExprTask::Unary(..) => unreachable!(),
     }
 }

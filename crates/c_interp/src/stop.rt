@@ -17,10 +17,11 @@ pub enum Ending {
     WriteFault,
 }
 
-// Why a step does not go on: the run has an ending, or memory is out.
+// Why a step does not go on: the run has an ending, or memory is out. The status of an exit stands
+// in the machine.
 #[derive(Clone, Copy)]
 pub(crate) enum Stop {
-    Exit(u8),
+    Exit,
     Cut,
     Undefined,
     ReadFault,

@@ -139,5 +139,6 @@ pub(crate) fn end_program(machine: &mut Machine) -> Result<(), Stop>
     let Some(w) = number(v) else {
         return Err(Stop::Undefined);
     };
-    Err(Stop::Exit((w % 256) as u8))
+    machine.status = (w % 256) as u8;
+    Err(Stop::Exit)
 }

@@ -95,8 +95,8 @@ fn slot_address<'a>(machine: &Machine<'a>, program: Program<'a>, slot: u32) -> O
     }
 }
 
-// The value of the variable at a slot.
-fn slot_read(slots: &[Slot], slot: u32) -> Option<Value>
+/// The value of the variable at a slot.
+pub(crate) fn slot_read(slots: &[Slot], slot: u32) -> Option<Value>
     ensures { result ≡ slot_read (slice_get (slots_of slots.now) slot) }
 {
     match slots.get(slot as usize) {

@@ -1,18 +1,19 @@
 mod Carried
 mod Means
-mod User
+pub mod User
 mod Counted
-mod Resized
+pub mod Resized
 mod FilledFit
 mod PulledFit
 mod Replaced
 mod Answered
-mod Unread
+pub mod Unread
 mod Kept
 mod PulledOps
 mod Step
 mod Examples
 mod Entries
 mod Saturated
-mod Found
+pub mod Found
 mod Filled
+mod Moves

@@ -116,21 +116,28 @@ module _ (values next n : ℕ) (args : List Kind) (ns : NodeTrees) (results : Li
         outputs-as-many stays first at.op at.pure carried next at.regions,
       )
 
+  -- the values that come and go are all that change
+  pub pulled-count : region_values s + gone n at.pull ≡ region_values (region args ns results) + added n at.pull
+  pulled-count =
+      omega (
+        arith,
+        ap region_values result-is,
+        without-values n changed x found-now,
+        ap length (pure-outputs at.op at.pure no_regions),
+        gamma-values,
+        ap nodes_values at.user.is,
+        nodes_values-joined at.user.before (node_then g at.user.after),
+        nodes_values-joined at.user.before (node_then now at.user.after),
+        ap (gone n) at.pull_is,
+        ap (added n) at.pull_is,
+      )
+
   resized : Resized values (region_values (region args ns results)) (region_values s)
   resized =
       record {
         added = added n h;
         gone = gone n h;
-        count = omega (
-          arith,
-          ap region_values result-is,
-          without-values n changed x found-now,
-          ap length (pure-outputs at.op at.pure no_regions),
-          gamma-values,
-          ap nodes_values at.user.is,
-          nodes_values-joined at.user.before (node_then g at.user.after),
-          nodes_values-joined at.user.before (node_then now at.user.after),
-        );
+        count = omega (arith, pulled-count, ap (gone n) at.pull_is, ap (added n) at.pull_is);
         may = (and_parts (may_change_size values (added n h) (gone n h)) (nat_le (next + copies_of n h) most_next)
             (and_parts (may_change_size values (added n h) (gone n h) && nat_le (next + copies_of n h) most_next) _ (ap (fits values next n) (sym at.pull_is) ∙ at.can)).0).0;
       }

@@ -84,6 +84,7 @@ pub record PulledAt (values next n : ℕ) (args : List Kind) (ns : NodeTrees) (r
   pub can : fits values next n pull ≡ true
   pub gives : region_pulled next n (region args ns results) pull ≡ s
   pub copies : copies_here values next n (region args ns results) ≡ Some (copies_of n pull)
+  pub found : pull_at values next n (region args ns results) ≡ Some pull
 
 -- the user is a Gamma
 record Into (n : ℕ) (op : Op) (inputs : List Origin) (g : NodeTree) (h : Pull) : Type 0 where
@@ -158,6 +159,10 @@ module _ (values next n : ℕ) (args : List Kind) (ns : NodeTrees) (results : Li
         can = e;
         gives = same_Some (region_pulled next n whole h) s d;
         copies = c;
+        found = ap (λ o. option_and_then (where_fits values next n) (option_and_then (pull_of n whole) o)) at
+            ∙ ap (λ t. option_and_then (where_fits values next n) (cond t (option_and_then (into n op inputs) (only_user n ns)) None)) test
+            ∙ ap (λ o. option_and_then (where_fits values next n) (option_and_then (into n op inputs) o)) user ∙ ap (option_and_then (where_fits values next n)) found
+            ∙ ap (λ t. cond t (Some h) None) e;
       }
 
   by-into : (id : ℕ) (op : Op) (inputs : List Origin) (rs : RegionTrees) (s : RegionTree) → node_at n ns ≡ Some (node id op inputs rs) →

@@ -14,9 +14,11 @@ use Rattle.r_edit.specs.Uses.{is_output_of}
 use Rattle.r_edit.specs.Entries.{node_taking}
 use Rattle.r_edit.specs.Removal.{region_without}
 use Rattle.r_pull.specs.declared.find.Found.{Found}
+use Rattle.r_pull.specs.declared.into.Moved.{Moved}
+use Rattle.r_pull.specs.declared.into.Planned.{Planned}
 use Rattle.r_pull.specs.declared.plan.NewLists.{NewLists}
 use Rattle.r_pull.specs.declared.plan.Plan.{Plan}
-use Rattle.r_pull.specs.Rule.{node_uses, only_user, user_changed, copy_used, region_filled, copies_in, Pull, copies_of, gamma_pulled, most_next}
+use Rattle.r_pull.specs.Rule.{node_uses, only_user, user_changed, copy_used, region_filled, copies_in, Pull, copies_of, gamma_pulled, added, gone, most_next}
 
 -- ---- the node and its user
 
@@ -130,3 +132,17 @@ Fits n nodes plan = (g : NodeTree) → first_user n nodes ≡ Some g → HaveRoo
 abbrev pub FitsPlanned : (n : ℕ) → NodeTrees → Option Plan → Type 0
 FitsPlanned n nodes None = ⊤
 FitsPlanned n nodes (Some plan) = Fits n nodes plan
+
+-- ---- a move into one Gamma
+
+abbrev pub moved_of : (n : ℕ) → Pull → Moved
+moved_of n h = record { copies = copies_of n h; added = added n h; gone = gone n h }
+
+-- the Gamma afterwards
+abbrev pub gamma_after : (next n : ℕ) → Option Pull → NodeTree → NodeTree
+gamma_after next n None g = g
+gamma_after next n (Some h) g = gamma_pulled next n h g
+
+abbrev pub IsPlannedFor : (next n : ℕ) → (x g : NodeTree) → Option Planned → Type 0
+IsPlannedFor next n x g None = ⊤
+IsPlannedFor next n x g (Some p) = IsPlanFor next n x g p.plan

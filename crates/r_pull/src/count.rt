@@ -64,11 +64,24 @@ fn can_change(node: &Node, user: &Node, copies: u64, values: u64, id: u32) -> bo
     ensures { result ≡ may_change_size values (added id (pull_into node.now user.now))
         (gone id (pull_into node.now user.now)) }
 {
+    let (added, gone) = change_of(node, user, copies, id);
+    may_change_size(values, added, gone)
+}
+
+/// How many values come, and how many go, where the node moves into the Gamma.
+pub fn change_of(node: &Node, user: &Node, copies: u64, id: u32) -> (u128, u128)
+    requires copies { copies ≡ copies_of id (pull_into node.now user.now) }
+    requires index { length (entries_of user.now) + length (inputs_in node.now) ≤ 2 ^ 32 }
+    ensures added { result.0 ≡ added id (pull_into node.now user.now) }
+    ensures gone { result.1 ≡ gone id (pull_into node.now user.now) }
+    ensures few_added { result.0 < 2 ^ 127 }
+    ensures few_gone { result.1 < 2 ^ 127 }
+{
     let more = carried_count(node, user, copies, id);
     let entries = entries_of(user);
     let added = more_args(&user.regions, more) + 2 * u128::from(copies);
     let gone = gone_args(&user.regions, entries, more, id) + 2;
-    may_change_size(values, added, gone)
+    (added, gone)
 }
 
 // How many inputs the Gamma takes: where no region takes a copy, none.

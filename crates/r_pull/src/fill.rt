@@ -45,7 +45,8 @@ fn user_index(nodes: &[Node], id: u32) -> Option<usize>
     None
 }
 
-fn take(alloc: Global, user: &mut Node, plan: Plan)
+/// The Gamma changes as planned. It takes no memory.
+pub fn take(alloc: Global, user: &mut Node, plan: Plan)
     requires { HaveRoom plan.lists.items (regions_in user.old) }
     ensures { user.new ≡ taking plan user.old }
 {

@@ -53,8 +53,9 @@ fn found_from<'a>(
     }
 }
 
+/// The node and the Gamma, where the node may move into it.
 #[tactic(auto, using(crate::proofs::Found::fits_suffices))]
-fn found_into<'a>(
+pub fn found_into<'a>(
     node: &'a Node,
     user: &'a Node,
     values: u64,

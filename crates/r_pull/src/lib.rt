@@ -7,9 +7,11 @@
 mod count;
 mod fill;
 mod find;
+mod into;
 pub mod laws;
 mod plan;
 mod reads;
 mod rule;
 
+pub use into::{Moved, pull_into};
 pub use rule::{applies, apply};

@@ -28,7 +28,7 @@ returns-in-Ok c =
     params-read fn variables c.f.inside.params c.min-params.result (c.deref-3.ensures.value ∙ ap (λ (x : FunctionTree). x.variables) c.f.view_is) (ap (λ (x : FunctionTree). x.params) c.f.view_is) few in
     begins c.args.program.typed.now c.args.function c.args.count fn old shapes (opened_of c.in_ok-objects.objects) c.open.new.self (take c.min-params.result variables) (take (length all - at) (drop at all)) c.requires.there laid
     (λ calls m h. c.in_ok-objects.ensures calls m h) are_params (args-read ops all c.args.count at c.deref-4.ensures.value first)
-    _ c.take_arguments-taken.new.store c.truncate.new.self (λ calls m h. c.in-Ok.ensures.stored calls m h) refl refl refl c.in-Ok.ensures.slots (c.truncate.ensures.items ∙ ap (λ k. take k ops) first)
+    _ c.take_arguments-taken.new.store c.truncate.new.self c.blank_slots.new.spare (λ calls m h. c.in-Ok.ensures.stored calls m h) refl refl refl c.in-Ok.ensures.slots (c.truncate.ensures.items ∙ ap (λ k. take k ops) first)
 
 pub returns-in-Err : goal.returns-in-Err
 returns-in-Err c =

@@ -13,7 +13,7 @@ use Rattle.c_interp.proofs.calls.take_arguments.Goals.{then-p+else-not-store+in_
 pub loop-i-init : goal.loop-i-init
 loop-i-init c = record {
   number = omega arith;
-  slots = sym (ap (λ l. slots_of l ++ params_in_scope 0 c.args.params.now c.args.arguments.now) c.in_ok-slots.ensures.items);
+  slots = sym (ap (λ l. slots_of l ++ params_in_scope 0 c.args.params.now c.args.arguments.now) c.requires.blank);
   stored = λ calls m h. (m, h, refl);
 }
 

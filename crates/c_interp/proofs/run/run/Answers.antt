@@ -30,7 +30,7 @@ returns-in_default-clause-ends g c = all_done c.args.program.typed.now c.args.pr
 pub returns-in-Err-clause-ends : goal.returns-in-Err-clause-ends
 returns-in-Err-clause-ends g c =
     ended_weaker c.args.program.typed.now c.args.program.bound _ _ _ _ _ _ c.ending_of.result (λ h. increased-earlier _ _ _ c.loop-step.invariant.reads h) (λ h. increased-earlier _ _ _ c.loop-step.invariant.writes h)
-    (ended_by c.args.program.typed.now c.args.program.bound _ c.loop-step.machine c.pop.new.self c.in-Some.task _ _ _ _ c.in-Err.stop c.ending_of.result
+    (ended_by c.args.program.typed.now c.args.program.bound _ c.loop-step.machine c.pop.new.self c.in-Some.task _ _ _ _ _ c.in-Err.stop c.ending_of.result
     c.loop-step.invariant.reached c.in-Some.ensures.items c.in-Err.ensures.step c.ending_of.ensures)
 
 pub returns-clause-ends : goal.returns-clause-ends

@@ -1,21 +1,36 @@
 use Rattle.c_typed.specs.Typed.{some_expr}
-use Rattle.c_interp_def.specs.declared.task.Stage.TheVariants.{RunTurns}
-use Rattle.c_interp_def.specs.declared.task.StmtTask.TheVariants.{OnStmt}
-use Rattle.c_interp_def.specs.declared.task.Task.TheVariants.{OfStmt}
 use Rattle.c_interp_def.specs.StmtTasks as stmt
 use Rattle.c_interp_def.specs.StmtTasks.{optional_tasks}
 use Rattle.c_interp.specs.Steps.{tasks_do}
-use Rattle.c_interp.proofs.AtOnce.{put_then, written_then}
+use Rattle.c_interp.proofs.Performed.{is_moved, moved_then, not_performed, performed_flow, stopped_then}
 use Rattle.c_interp.proofs.turns.step_then.Goals as goal
 
-pub returns-in-Some : goal.returns-in-Some
-returns-in-Some c =
-    let p = c.args.program.typed.now in
-    let n = c.args.program.bound in
-    written_then p n c.run_turns.result c.args.machine.now c.run_turns.new.machine c.set_slot.new.slots c.args.e.now c.in-Some.w (stmt.run_turns c.args.turns c.args.a.now) (c.in-Some.ensures n) c.set_slot.ensures c.run_turns.ensures
+pub run_turns-requires-clause-normal : goal.run_turns-requires-clause-normal
+run_turns-requires-clause-normal c =
+    performed_flow c.args.program.typed.now c.args.program.bound c.in-Ok-true.field-0 c.args.machine.now c.performed.new.machine _ (c.in-Ok-true.ensures c.args.program.bound) c.requires.normal
 
-pub returns-in_ok-push-in-None : goal.returns-in_ok-push-in-None
-returns-in_ok-push-in-None c =
+pub returns-in-Ok-true : goal.returns-in-Ok-true
+returns-in-Ok-true c =
     let p = c.args.program.typed.now in
     let n = c.args.program.bound in
-    put_then p n c.perform_more.result c.args.machine.now c.perform_more.new.machine c.push.new.self (OfStmt (OnStmt (RunTurns c.args.turns) c.args.a)) (tasks_do p n (optional_tasks (some_expr c.args.e.now))) c.in_ok-push-in-None.ensures.items (c.perform_more.ensures n)
+    let mid = c.performed.new.machine in
+    let run = tasks_do p n (optional_tasks (some_expr c.args.e.now)) in
+    moved_then p n c.run_turns.result c.args.machine.now mid c.run_turns.new.machine run (stmt.run_turns c.args.turns c.args.a.now)
+    (is_moved p n c.in-Ok-true.field-0 c.args.machine.now mid run c.in-Ok-true.field-0-test (c.in-Ok-true.ensures n)) c.run_turns.ensures
+
+pub step_later-requires-clause-normal : goal.step_later-requires-clause-normal
+step_later-requires-clause-normal c =
+    performed_flow c.args.program.typed.now c.args.program.bound c.in-Ok-false.field-0 c.args.machine.now c.performed.new.machine _ (c.in-Ok-false.ensures c.args.program.bound) c.requires.normal
+
+pub returns-in-Ok-false : goal.returns-in-Ok-false
+returns-in-Ok-false c =
+    let p = c.args.program.typed.now in
+    let n = c.args.program.bound in
+    let run = tasks_do p n (optional_tasks (some_expr c.args.e.now)) in
+    not_performed p n c.in-Ok-false.field-0 c.step_later.result c.args.machine.now c.performed.new.machine c.step_later.new.machine run _ c.in-Ok-false.field-0-test (c.in-Ok-false.ensures n) (c.step_later.ensures n)
+
+pub returns-in-Err : goal.returns-in-Err
+returns-in-Err c =
+    let p = c.args.program.typed.now in
+    let n = c.args.program.bound in
+    stopped_then p n c.in-Err.stop c.args.machine.now c.performed.new.machine (tasks_do p n (optional_tasks (some_expr c.args.e.now))) _ (c.in-Err.ensures n)

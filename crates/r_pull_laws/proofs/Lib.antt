@@ -1,0 +1,4 @@
+mod Examples
+mod Places
+mod Step
+mod Walks

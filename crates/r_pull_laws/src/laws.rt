@@ -1,0 +1,10 @@
+//! The law of the walk.
+
+ghost use Rattle.r_pull_laws.specs.Laws.{PullWalksAreSweeps};
+
+/// A walk over a well-formed lambda makes the steps and the lambda that the rule's sweep makes.
+pub fn pull_walks_are_sweeps()
+    ensures { PullWalksAreSweeps }
+{
+    r_pull::laws::pll_keeps_meaning();
+}
