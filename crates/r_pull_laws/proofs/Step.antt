@@ -8,11 +8,10 @@ use Rattle.g_graph.specs.declared.op.Kind.{Kind}
 use Rattle.g_graph.specs.declared.op.Op.{Op}
 use Rattle.g_graph.specs.declared.op.Origin.{Origin}
 use Rattle.g_graph.specs.declared.steps.Rule.TheVariants.{Pull}
-use Rattle.g_graph.specs.Change.{has_node, region_changed}
+use Rattle.g_graph.specs.Change.{has_node}
 use Rattle.g_graph.specs.Count.{region_values}
-use Rattle.g_graph.specs.Ids.{region_ids, node_ids, nodes_ids, regions_ids}
-use Rattle.g_graph.specs.Nodes.{node_at}
-use Rattle.g_graph.specs.Plain.{RegionTree, region, NodeTree, node, NodeTrees, no_nodes, node_then, RegionTrees, nodes_in, id_of, has_none, PlainLambda}
+use Rattle.g_graph.specs.Ids.{region_ids, nodes_ids}
+use Rattle.g_graph.specs.Plain.{RegionTree, region, NodeTree, node, NodeTrees, no_nodes, node_then, RegionTrees, id_of, has_none, PlainLambda}
 use Rattle.g_graph.specs.Program.{lambda_values}
 use Rattle.g_graph.specs.Signatures.{is_pure}
 use Rattle.g_graph.specs.Splice.{joined_nodes}
