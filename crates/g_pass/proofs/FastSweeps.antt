@@ -12,12 +12,14 @@ use Rattle.g_arena_def.specs.Flat.{Flat}
 use Rattle.g_pass_def.specs.Sweep.{sweep, in_order}
 use Rattle.r_sweep_def.specs.Swept.{Logged, Change, tried_by, swept_by}
 use Rattle.r_sweep_laws.specs.Fast.{HasSwept}
-use Rattle.g_pass.specs.Fast.{is_in_arena, is_fast, FastRulesKeep, change_of}
+use Rattle.g_pass.specs.Fast.{is_in_arena, RulesKeep, change_of}
 use Rattle.g_pass.specs.Sweep.{applies, applied, rules}
 use Rattle.r_fold.specs.Laws.{FoldIsAStep}
 use Rattle.r_cne.specs.Laws.{CneIsAStep}
 use Rattle.r_dne.specs.Laws.{DneIsAStep}
 use Rattle.r_inv.specs.Laws.{InvIsAStep}
+use Rattle.r_push.specs.Laws.{PshIsAStep}
+use Rattle.r_pull.specs.Laws.{PllIsAStep}
 use Rattle.r_unroll.specs.Laws.{UrlIsAStep}
 use Rattle.r_invert.specs.Laws.{IvtIsAStep}
 use Rattle.r_inline_laws.specs.Callees.{inline_change}
@@ -29,25 +31,25 @@ logged l steps = record { lambda = l; steps = steps }
 is_no_truth : {A : Type 0} → false ≡ true → A
 is_no_truth e = absurd cc
 
-pub fast_rules_keep : FoldIsAStep → CneIsAStep → DneIsAStep → InvIsAStep → UrlIsAStep → IvtIsAStep → FastRulesKeep
-fast_rules_keep fold cne dne inv url ivt Cne n l fast well = (cne [] n l well).well_formed
-fast_rules_keep fold cne dne inv url ivt Dne n l fast well = (dne [] n l well).well_formed
-fast_rules_keep fold cne dne inv url ivt Inv n l fast well = (inv [] n l well).well_formed
-fast_rules_keep fold cne dne inv url ivt Fold n l fast well = (fold [] n l well).well_formed
-fast_rules_keep fold cne dne inv url ivt Push n l fast well = is_no_truth fast
-fast_rules_keep fold cne dne inv url ivt Pull n l fast well = is_no_truth fast
-fast_rules_keep fold cne dne inv url ivt Invert n l fast well = (ivt [] n l well).well_formed
-fast_rules_keep fold cne dne inv url ivt Unroll n l fast well = (url [] n l well).well_formed
-fast_rules_keep fold cne dne inv url ivt Inline n l fast well = well
+pub rules_keep : FoldIsAStep → CneIsAStep → DneIsAStep → InvIsAStep → PshIsAStep → PllIsAStep → UrlIsAStep → IvtIsAStep → RulesKeep
+rules_keep fold cne dne inv psh pll url ivt Cne n l well = (cne [] n l well).well_formed
+rules_keep fold cne dne inv psh pll url ivt Dne n l well = (dne [] n l well).well_formed
+rules_keep fold cne dne inv psh pll url ivt Inv n l well = (inv [] n l well).well_formed
+rules_keep fold cne dne inv psh pll url ivt Fold n l well = (fold [] n l well).well_formed
+rules_keep fold cne dne inv psh pll url ivt Push n l well = (psh [] n l well).well_formed
+rules_keep fold cne dne inv psh pll url ivt Pull n l well = (pll [] n l well).well_formed
+rules_keep fold cne dne inv psh pll url ivt Invert n l well = (ivt [] n l well).well_formed
+rules_keep fold cne dne inv psh pll url ivt Unroll n l well = (url [] n l well).well_formed
+rules_keep fold cne dne inv psh pll url ivt Inline n l well = well
 
--- ---- a sweep of a fast rule keeps a lambda well formed, and what the log had
+-- ---- a sweep keeps a lambda well formed, and what the log had
 
-module _ (r : Rule) (fast : IsTrue (is_fast r)) (keep : FastRulesKeep) where
+module _ (r : Rule) (keep : RulesKeep) where
   one_keeps : (n : ℕ) (s : Logged) → IsWellFormed s.lambda → IsWellFormed (tried_by (change_of r) s n).lambda
   one_keeps n s well = by (applies r s.lambda n)
     where
       by : (t : Bool) → IsWellFormed (if t then record { lambda = applied r n s.lambda; steps = s.steps ++ record { rule = r; node = n } ∷ [] } else s).lambda
-      by true = keep r n s.lambda fast well
+      by true = keep r n s.lambda well
       by false = well
 
   pub sweeps_keep : (ns : List ℕ) (s : Logged) → IsWellFormed s.lambda → IsWellFormed (swept_by (change_of r) ns s).lambda
@@ -85,18 +87,6 @@ has_added c ns l before after a h = let m = sweeps_add c ns (logged l before) in
 -- a log that has gained steps, cut back
 pub cut_back : (before after now : List Step) (n : ℕ) → HasAdded before after → n ≡ length before → now ≡ take n after → now ≡ before
 cut_back before after now n h e f = f ∙ ap (λ k. take k after) e ∙ ap (take (length before)) h.1 ∙ take-append_seam before h.0
-
--- a rule that is swept over an arena is swept at once
-pub arena_is_fast : (r : Rule) → IsTrue (is_in_arena r) → IsTrue (is_fast r)
-arena_is_fast Cne h = refl
-arena_is_fast Dne h = refl
-arena_is_fast Inv h = refl
-arena_is_fast Fold h = is_no_truth h
-arena_is_fast Push h = is_no_truth h
-arena_is_fast Pull h = is_no_truth h
-arena_is_fast Invert h = is_no_truth h
-arena_is_fast Unroll h = is_no_truth h
-arena_is_fast Inline h = is_no_truth h
 
 -- ---- a sweep over an arena
 
@@ -156,7 +146,7 @@ of_calls (Ok made) r callees l before after e h =
     subst (λ q. record { lambda = made; steps = after } ≡ sweep rules callees (record { lambda = l; steps = before }) q) (sym e) (is_sweep_of_calls callees l made before after h)
 of_calls (Err fault) r callees l before after e h = tt
 
-pub walk_keeps : {B : Type 0} (x : Result PlainLambda B) (r : Rule) → IsTrue (is_fast r) → FastRulesKeep → (ns : List ℕ) (l : PlainLambda) (before after : List Step) → IsWellFormed l →
+pub walk_keeps : {B : Type 0} (x : Result PlainLambda B) (r : Rule) → RulesKeep → (ns : List ℕ) (l : PlainLambda) (before after : List Step) → IsWellFormed l →
     IfOk x (λ made. logged made after ≡ swept_by (change_of r) ns (logged l before)) → IfOk x IsWellFormed
-walk_keeps (Ok made) r fast keep ns l before after well e = subst IsWellFormed (sym (ap (λ z. z.lambda) e)) (sweeps_keep r fast keep ns (logged l before) well)
-walk_keeps (Err fault) r fast keep ns l before after well e = tt
+walk_keeps (Ok made) r keep ns l before after well e = subst IsWellFormed (sym (ap (λ z. z.lambda) e)) (sweeps_keep r keep ns (logged l before) well)
+walk_keeps (Err fault) r keep ns l before after well e = tt

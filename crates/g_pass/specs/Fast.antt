@@ -1,7 +1,7 @@
--- Which rules are swept at once, over an arena or in one walk, and a sweep of a rule as the fold of its test and its change.
-use Rattle.std.specs.Prelude.{◌≡◌, ℕ, Bool, true, false, List, IsTrue}
+-- Which rules are swept over an arena, and a sweep of a rule as the fold of its test and its change.
+use Rattle.std.specs.Prelude.{◌≡◌, ℕ, Bool, true, false, List}
 use Rattle.g_graph.specs.declared.steps.Rule.{Rule}
-use Rattle.g_graph.specs.declared.steps.Rule.TheVariants.{Cne, Dne, Inv, Push, Pull, Inline}
+use Rattle.g_graph.specs.declared.steps.Rule.TheVariants.{Cne, Dne, Inv, Inline}
 use Rattle.g_graph.specs.declared.steps.Step.{Step}
 use Rattle.g_graph.specs.Plain.{PlainLambda}
 use Rattle.g_graph.specs.Ids.{region_ids}
@@ -16,14 +16,9 @@ is_in_arena Dne = true
 is_in_arena Inv = true
 is_in_arena _ = false
 
-abbrev pub is_fast : Rule → Bool
-is_fast Push = false
-is_fast Pull = false
-is_fast _ = true
-
--- what such a rule makes of a well-formed lambda is well formed
-abbrev pub FastRulesKeep : Type 0
-FastRulesKeep = (r : Rule) (n : ℕ) (l : PlainLambda) → IsTrue (is_fast r) → IsWellFormed l → IsWellFormed (applied r n l)
+-- what a rule that looks at its lambda alone makes of a well-formed lambda is well formed
+abbrev pub RulesKeep : Type 0
+RulesKeep = (r : Rule) (n : ℕ) (l : PlainLambda) → IsWellFormed l → IsWellFormed (applied r n l)
 
 -- the test and the change of a rule that looks at its lambda alone
 abbrev pub change_of : Rule → Change

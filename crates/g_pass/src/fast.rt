@@ -12,7 +12,7 @@ ghost use Rattle.g_pass_def.specs.Answers.{lambdas_of};
 ghost use Rattle.g_pass_def.specs.Sweep.{in_order, sweep};
 ghost use Rattle.r_sweep_def.specs.Swept.{swept_by};
 ghost use Rattle.r_sweep_laws.specs.Fast.{HasSwept, IsWhole};
-ghost use Rattle.g_pass.specs.Fast.{change_of, is_in_arena, is_fast, FastRulesKeep};
+ghost use Rattle.g_pass.specs.Fast.{change_of, is_in_arena, RulesKeep};
 ghost use Rattle.g_pass.specs.Sweep.{rules};
 
 use g_arena::Arena;
@@ -24,13 +24,6 @@ use std::sync::Arc;
 use std::sync::ledger::{Blank, Ledger};
 use steps::Steps;
 
-/// Whether a sweep of the rule is made at once.
-pub const fn is_fast(rule: Rule) -> bool
-    ensures { result ≡ is_fast rule }
-{
-    !matches!(rule, Rule::Push | Rule::Pull)
-}
-
 /// Whether a sweep of the rule goes over an arena.
 pub const fn is_in_arena(rule: Rule) -> bool
     ensures { result ≡ is_in_arena rule }
@@ -38,7 +31,7 @@ pub const fn is_in_arena(rule: Rule) -> bool
     matches!(rule, Rule::Cne | Rule::Dne | Rule::Inv)
 }
 
-/// What a sweep of such a rule makes of a lambda. The callees are what functions that the lambda
+/// What a sweep of the rule makes of a lambda. The callees are what functions that the lambda
 /// calls were made into. The steps that applied are appended to the log.
 /// `NoMemory` only where the allocator has none, or where 32 bits do not count what a node or a
 /// region has; the lambda is then given up, and the log is as it was.
@@ -49,7 +42,6 @@ pub fn swept_fast(
     callees: &[Arc<Optimised>],
     log: &mut Vec<Step>,
 ) -> Result<Lambda, NoMemory>
-    requires fast { IsTrue (is_fast rule) }
     requires well_formed { IsWellFormed lambda }
     ensures ok { IfOk result (λ made. record { lambda = made; steps = log.new.items } ≡
         sweep rules (lambdas_of (map arc_value callees.now))
@@ -75,7 +67,6 @@ fn swept_whole(
     callees: &[Arc<Optimised>],
     log: &mut Vec<Step>,
 ) -> Result<Lambda, NoMemory>
-    requires fast { IsTrue (is_fast rule) }
     requires well_formed { IsWellFormed lambda }
     ensures ok { IfOk result (λ made. record { lambda = made; steps = log.new.items } ≡
         sweep rules (lambdas_of (map arc_value callees.now))
@@ -109,7 +100,7 @@ fn swept_in<L: Ledger>(
     ensures kept { IfOk result (λ made. IsWellFormed made) }
     ensures err { OnErr result ((added : List Step) × (log.new.items ≡ log.old.items ++ added)) }
 {
-    fast_rules_keep();
+    rules_keep();
     let mut looks = Steps::<L>::new(blank);
     let mut arena = Arena::of(alloc, lambda, &mut looks)?;
     match sweep_arena(alloc, rule, &mut arena, log, &mut looks) {
@@ -129,7 +120,6 @@ fn walked(
     callees: &[Arc<Optimised>],
     log: &mut Vec<Step>,
 ) -> Result<Lambda, NoMemory>
-    requires fast { IsTrue (is_fast rule) }
     requires no_arena { is_in_arena rule ≡ false }
     requires well_formed { IsWellFormed lambda }
     ensures ok { IfOk result (λ made. record { lambda = made; steps = log.new.items } ≡
@@ -138,9 +128,11 @@ fn walked(
     ensures kept { IfOk result (λ made. IsWellFormed made) }
     ensures err { OnErr result ((added : List Step) × (log.new.items ≡ log.old.items ++ added)) }
 {
-    fast_rules_keep();
+    rules_keep();
     match rule {
         Rule::Fold => r_fold_walk::sweep_fast(alloc, lambda, log),
+        Rule::Push => r_push_walk::sweep_fast(alloc, lambda, log),
+        Rule::Pull => r_pull_walk::sweep_fast(alloc, lambda, log),
         Rule::Unroll => r_unroll_walk::sweep_fast(alloc, lambda, log),
         Rule::Invert => r_invert_walk::sweep_fast(alloc, lambda, log),
         Rule::Inline => r_inline_walk::sweep_fast(alloc, lambda, callees, log),
@@ -174,14 +166,16 @@ fn sweep_arena<L: Ledger>(
     }
 }
 
-// What such a rule makes of a well-formed lambda is well formed.
-fn fast_rules_keep()
-    ensures { FastRulesKeep }
+// What a rule that looks at its lambda alone makes of a well-formed lambda is well formed.
+fn rules_keep()
+    ensures { RulesKeep }
 {
     r_fold::laws::fold_keeps_meaning();
     r_cne::laws::cne_keeps_meaning();
     r_dne::laws::dne_keeps_meaning();
     r_inv::laws::inv_keeps_meaning();
+    r_push::laws::psh_keeps_meaning();
+    r_pull::laws::pll_keeps_meaning();
     r_unroll::laws::url_keeps_meaning();
     r_invert::laws::ivt_keeps_meaning();
 }

@@ -8,11 +8,10 @@ ghost use Rattle.g_graph.specs.Ids.{region_ids};
 ghost use Rattle.g_graph.specs.WellFormed.{IsWellFormed};
 ghost use Rattle.g_pass_def.specs.Answers.{lambdas_of};
 ghost use Rattle.g_pass_def.specs.Sweep.{in_order, optimise, sweep, tried};
-ghost use Rattle.g_pass.specs.Fast.{is_fast};
 ghost use Rattle.g_pass.specs.Sweep.{rules};
 
 use crate::Recipe;
-use crate::fast::{is_fast, is_in_arena, swept_fast};
+use crate::fast::{is_in_arena, swept_fast};
 use crate::rule_step::{is_backward, try_step};
 use g_graph::{Lambda, Optimised, Rule, Step, StepList, copy_of, ids, values};
 use no_memory::NoMemory;
@@ -34,9 +33,8 @@ fn numbers(alloc: Global, rule: Rule, lambda: &Lambda) -> Result<Vec<u32>, NoMem
 /// pre-order or, for a rule that goes backward, in that order reversed. The callees are what
 /// functions that the lambda calls were made into. The steps that applied are appended to the log.
 /// `NoMemory` only where the allocator has none, or where a node or a region has more than
-/// 4294967295 contents of a kind; the lambda is then the one after the logged steps. A sweep of
-/// `psh` or `pll` takes linear time for each of its nodes, any other one time n log n in the lambda,
-/// in the callees and in what comes.
+/// 4294967295 contents of a kind; the lambda is then the one after the logged steps. It takes time
+/// n log n in the lambda, in the callees and in what comes.
 pub fn sweep(
     alloc: Global,
     rule: Rule,
@@ -55,14 +53,10 @@ pub fn sweep(
         (record { lambda = lambda.old; steps = log.old.items })
         (take count (in_order rules rule (region_ids lambda.old.body))))) }
 {
-    if is_fast(rule) {
-        sweep_copy(alloc, rule, lambda, callees, log)
-    } else {
-        sweep_steps(alloc, rule, lambda, callees, log)
-    }
+    sweep_copy(alloc, rule, lambda, callees, log)
 }
 
-// The sweep at once, of a copy.
+// The sweep, of a copy.
 fn sweep_copy(
     alloc: Global,
     rule: Rule,
@@ -70,7 +64,6 @@ fn sweep_copy(
     callees: &[Arc<Optimised>],
     log: &mut Vec<Step>,
 ) -> Result<(), NoMemory>
-    requires fast { IsTrue (is_fast rule) }
     requires well_formed { IsWellFormed lambda.old }
     ensures ok { OnOk result (record { lambda = lambda.new; steps = log.new.items } ≡
         sweep rules (lambdas_of (map arc_value callees.now))
@@ -114,10 +107,8 @@ fn sweep_steps(
 const LEAST_VALUES: u64 = 1024;
 
 // Whether a recipe sweeps the rule over the lambda at once. What it answers changes no result.
-fn is_put_in(rule: Rule, lambda: &Lambda) -> bool
-    ensures { IsTrue result → IsTrue (is_fast rule) }
-{
-    is_fast(rule) && (!is_in_arena(rule) || values(lambda) >= LEAST_VALUES)
+fn is_at_once(rule: Rule, lambda: &Lambda) -> bool {
+    !is_in_arena(rule) || values(lambda) >= LEAST_VALUES
 }
 
 // What a sweep makes of a lambda, of which no copy is made.
@@ -134,7 +125,7 @@ fn swept(
         (record { lambda = lambda; steps = log.old.items }) rule) }
     ensures kept { IfOk result (λ made. IsWellFormed made) }
 {
-    if is_put_in(rule, &lambda) {
+    if is_at_once(rule, &lambda) {
         return swept_fast(alloc, rule, lambda, callees, log);
     }
     let mut lambda = lambda;

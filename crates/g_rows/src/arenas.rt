@@ -1,6 +1,6 @@
 //! Arenas and walks. `check` puts a lambda that is well formed into an arena and takes it out
-//! again, and sweeps each rule that has a sweep at once over it both step by step and at once, where
-//! the callees are the lambdas before it; it says where the two differ. `left NODES` sweeps `dne`
+//! again, and sweeps each rule over it both step by step and at once, where the callees are the
+//! lambdas before it; it says where the two differ. `left NODES` sweeps `dne`
 //! over an arena of the lambda, and says which of these nodes the arena then has.
 
 ghost use Rattle.std.specs.Prelude.{◌≡◌, ◌<◌};
@@ -93,6 +93,8 @@ fn compare(row: &mut Row, lambda: &Lambda) -> Result<(), NoMemory>
         Rule::Cne,
         Rule::Dne,
         Rule::Inv,
+        Rule::Push,
+        Rule::Pull,
         Rule::Inline,
         Rule::Invert,
         Rule::Unroll,

@@ -6,7 +6,7 @@ use Rattle.g_pass_def.specs.Sweep.{in_order}
 use Rattle.r_sweep_def.specs.Swept.{swept_by}
 use Rattle.g_pass.specs.Fast.{change_of}
 use Rattle.g_pass.specs.Sweep.{rules}
-use Rattle.g_pass.proofs.FastSweeps.{logged, on_ok, at_err, sweeps_keep, has_added, arena_is_fast}
+use Rattle.g_pass.proofs.FastSweeps.{logged, on_ok, at_err, sweeps_keep, has_added}
 use Rattle.g_pass.proofs.Swept.{on_err}
 use Rattle.g_pass.proofs.fast.swept_in.Goals as goal
 
@@ -19,7 +19,7 @@ returns-in-Ok-clause-kept g c =
     let ns = in_order rules c.args.rule (region_ids c.args.lambda.body) in
     let first = logged c.args.lambda c.args.log.now.items in
     IfOk-weaker c.into_lambda.result _ IsWellFormed
-    (λ made e. subst IsWellFormed (sym e) (sweeps_keep c.args.rule (arena_is_fast c.args.rule c.requires.in_arena) c.fast_rules_keep.ensures ns first c.requires.well_formed))
+    (λ made e. subst IsWellFormed (sym e) (sweeps_keep c.args.rule c.rules_keep.ensures ns first c.requires.well_formed))
     (c.into_lambda.ensures.stands (swept_by (change_of c.args.rule) ns first).lambda h.0)
 
 pub returns-in-Ok-clause-err : goal.returns-in-Ok-clause-err

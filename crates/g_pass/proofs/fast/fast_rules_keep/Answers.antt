@@ -1,7 +1,0 @@
-use Rattle.g_pass.proofs.FastSweeps as sweeps
-use Rattle.g_pass.proofs.fast.fast_rules_keep.Goals as goal
-
-pub returns : goal.returns
-returns c =
-    sweeps.fast_rules_keep c.fold_keeps_meaning.ensures.step c.cne_keeps_meaning.ensures.step c.dne_keeps_meaning.ensures.step c.inv_keeps_meaning.ensures.step c.url_keeps_meaning.ensures.step
-    c.ivt_keeps_meaning.ensures.step
