@@ -1,0 +1,5 @@
+mod After
+mod Loops
+mod Steps
+mod Uses
+mod Written

@@ -1,0 +1,4 @@
+mod Along
+mod Exits
+mod Growth
+mod Left
