@@ -1,26 +1,23 @@
 -- The users after a node was written, or moved.
-use Rattle.std.specs.Prelude.{option_and_then}
-use Rattle.std.proofs.Common.{◌≡◌, ◌≢◌, ℕ, suc, ◌+◌, ◌==◌, ◌||◌, not, Bool, true, false, cond, List, [], ◌∷◌, ◌++◌, length, Option, None, Some, refl, sym, ap, ap₂, subst, ◌∙◌, arith}
+use Rattle.std.proofs.Common.{◌≡◌, ◌≢◌, ℕ, suc, ◌+◌, ◌==◌, ◌||◌, not, Bool, true, false, cond, List, [], ◌∷◌, ◌++◌, length, refl, sym, ap, ap₂, subst, ◌∙◌, arith}
 use Rattle.std.proofs.lemmas.Bool.Decides.{nat_tests}
-use Rattle.g_graph.specs.declared.op.Op.{Op}
 use Rattle.g_graph.specs.declared.op.Op.TheVariants.{Const, Undef, Local, Delta, Bin, Un, Load, Store, Clear, PtrEq, Apply, Put, Exit, Get, Gamma, Theta}
 use Rattle.g_graph.specs.declared.op.Origin.{Origin}
 use Rattle.g_graph.specs.declared.op.Origin.TheVariants.{Arg, Out}
-use Rattle.g_graph.specs.Plain.{NodeTree, node, NodeTrees, no_nodes, node_then, RegionTrees, id_of, inputs_in}
+use Rattle.g_graph.specs.Plain.{NodeTree, node, no_nodes, node_then, RegionTrees, inputs_in}
 use Rattle.g_graph.specs.WellFormed.{some_of}
-use Rattle.g_graph.proofs.lemmas.Indexes.{same_number_true}
 use Rattle.g_graph.proofs.lemmas.Unique.{same_number}
 use Rattle.r_edit.specs.Uses.{is_output_of}
 use Rattle.r_edit.specs.Places.{kept}
-use Rattle.r_pull.specs.Rule.{node_uses, Pull, other_entries, stays_of, inputs_carried, copies_of, gamma_pulled}
+use Rattle.r_pull.specs.Rule.{other_entries, inputs_carried, copies_of, gamma_pulled}
 use Rattle.r_pull.specs.Edit.{takes, pull_into}
 use Rattle.r_pull.proofs.Found.{none_carried, all_carried}
 use Rattle.r_pull_walk.specs.declared.users.User.{User}
 use Rattle.r_pull_walk.specs.declared.users.User.TheVariants.{Nobody, Entries, Others}
 use Rattle.r_pull_walk.specs.Behind.{nodes_behind}
 use Rattle.r_pull_walk.specs.Users.{both_use, used_by, node_user, users_from, user_among, carried_with, user_after}
-use Rattle.r_pull_walk.proofs.Uses.{use_none, use_others, use_comm, use_assoc, same_use, users_more, some_uses, none_use}
-use Rattle.r_pull_walk.proofs.Written.{behind_both, Entry, Used}
+use Rattle.r_pull_walk.proofs.Uses.{use_none, use_comm, use_assoc, same_use, users_more, none_use}
+use Rattle.r_pull_walk.proofs.Written.{behind_both, Used}
 
 -- ---- a node that is written
 

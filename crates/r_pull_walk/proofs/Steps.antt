@@ -1,19 +1,17 @@
 -- What is written after a node is written, or moved.
-use Rattle.std.specs.Prelude.{option_and_then}
-use Rattle.std.proofs.Common.{◌≡◌, ℕ, zero, suc, ◌+◌, ◌-◌, Bool, true, false, cond, List, [], ◌∷◌, ◌++◌, length, slice_get, slice_set, Option, None, Some, option_map, refl, sym, ap, ap₂, subst, ◌∙◌, arith}
+use Rattle.std.proofs.Common.{◌≡◌, ℕ, Bool, true, false, cond, List, [], ◌∷◌, ◌++◌, length, slice_get, slice_set, Option, None, Some, option_map, refl, sym, ap, ap₂, ◌∙◌, arith}
 use Rattle.std.proofs.lemmas.Option.{same_Some}
 use Rattle.g_graph.specs.declared.op.Origin.{Origin}
 use Rattle.g_graph.specs.declared.steps.Rule.TheVariants.{Pull}
-use Rattle.g_graph.specs.Plain.{NodeTree, no_nodes, node_then, id_of, inputs_in}
+use Rattle.g_graph.specs.Plain.{NodeTree, id_of, inputs_in}
 use Rattle.r_pull.specs.Rule as rule
 use Rattle.r_pull.specs.Rule.{fits, where_fits, gamma_pulled, copies_of, added, gone}
 use Rattle.r_pull.specs.Edit.{pull_into, moved_of, gamma_after}
 use Rattle.r_pull.specs.declared.into.Moved.{Moved}
-use Rattle.r_pull_laws.specs.Walk.{Behind, pull_behind, put, put_where}
-use Rattle.r_pull_walk.specs.declared.users.User.{User}
+use Rattle.r_pull_laws.specs.Walk.{pull_behind, put, put_where}
 use Rattle.r_pull_walk.specs.declared.users.User.TheVariants.{Entries}
 use Rattle.r_pull_walk.specs.declared.users.Users.{Users}
-use Rattle.r_pull_walk.specs.Behind.{nodes_behind, behind, can_leave, IsWritten}
+use Rattle.r_pull_walk.specs.Behind.{behind, can_leave, IsWritten}
 use Rattle.r_pull_walk.specs.Users.{both_use, node_user, user_among, user_in, AreUsers, carried_with, user_after}
 use Rattle.r_pull_walk.proofs.After.{node_behind, users_written, users_moved, own_inputs}
 use Rattle.r_pull_walk.proofs.Written.{Used, used_at, stays_behind, moves_behind, changed_entry}

@@ -1,6 +1,6 @@
 -- Which node uses another one among those that are written.
 use Rattle.std.specs.Prelude.{option_and_then}
-use Rattle.std.proofs.Common.{◌≡◌, ◌<◌, ◌⊎◌, ℕ, suc, ◌+◌, ◌==◌, ◌&&◌, ◌||◌, not, Bool, true, false, cond, List, [], ◌∷◌, ◌++◌, length, Option, None, Some, option_map, refl, sym, ap, ap₂, subst, ◌∙◌, arith}
+use Rattle.std.proofs.Common.{◌≡◌, ◌<◌, ℕ, suc, ◌+◌, ◌==◌, ◌&&◌, ◌||◌, not, Bool, true, false, cond, List, [], ◌∷◌, ◌++◌, length, Option, None, Some, option_map, refl, sym, ap, ap₂, subst, ◌∙◌, arith}
 use Rattle.std.proofs.lemmas.Bool.{or_parts}
 use Rattle.g_graph.specs.declared.op.Op.{Op}
 use Rattle.g_graph.specs.declared.op.Origin.{Origin}
@@ -12,7 +12,7 @@ use Rattle.r_edit.specs.Uses.{nodes_read, is_output_of}
 use Rattle.r_pull.specs.Rule.{node_uses, only_user, user_changed, where_fits, Pull}
 use Rattle.r_pull.specs.Edit.{takes, where_takes, user_of, pull_into}
 use Rattle.r_pull.proofs.Found.{pull_seen_of}
-use Rattle.r_pull_laws.specs.Walk.{Behind, pull_behind}
+use Rattle.r_pull_laws.specs.Walk.{pull_behind}
 use Rattle.r_pull_walk.specs.declared.users.User.{User}
 use Rattle.r_pull_walk.specs.declared.users.User.TheVariants.{Nobody, Entries, Others}
 use Rattle.r_pull_walk.specs.Behind.{nodes_behind, behind, can_leave}

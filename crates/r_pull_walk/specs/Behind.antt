@@ -1,5 +1,5 @@
 -- The nodes that are written, the last of the region first.
-use Rattle.std.specs.Prelude.{◌≡◌, ℕ, List, [], ◌∷◌, ◌&&◌, Bool}
+use Rattle.std.specs.Prelude.{◌≡◌, List, [], ◌∷◌, ◌&&◌, Bool}
 use Rattle.g_graph.specs.declared.op.Origin.{Origin}
 use Rattle.g_graph.specs.Plain.{NodeTree, node, NodeTrees, no_nodes, node_then, RegionTree, RegionTrees, region_then, has_none}
 use Rattle.g_graph.specs.Signatures.{is_pure}

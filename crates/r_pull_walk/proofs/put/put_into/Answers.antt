@@ -1,6 +1,8 @@
 -- The node moved into the Gamma of the place, or does not fit there.
 use Rattle.std.proofs.Common.{◌≡◌, Some, length, slice_get, slice_set, refl, sym, ap, ◌∙◌, arith}
 use Rattle.std.proofs.lemmas.Option.{slice_get_read, slice_get_past}
+use Rattle.r_pull_laws.specs.Walk.{put_where}
+use Rattle.r_pull_walk.specs.Behind.{behind, IsWritten}
 use Rattle.r_pull_walk.proofs.Loops.{on_both}
 use Rattle.r_pull_walk.proofs.Steps.{is_there, kept, moved}
 use Rattle.r_pull_walk.proofs.put.put_into.Goals as goal
@@ -32,4 +34,4 @@ pub returns-then-place-len-clause-ok : goal.returns-then-place-len-clause-ok
 returns-then-place-len-clause-ok c = λ results are.
     let ws = c.args.written.now.items in
     let w = walking c.args.counts.now.values c.args.counts.now.next c.args.log.now.items in
-    absurd (is_there c.args.node results ws w c.args.users.now are c.args.place c.requires.user c.requires.leaves (slice_get_past ws c.args.place (omega (arith, c.if-place-len.true))))
+    absurd {A = IsWritten results (put_where c.args.node results (behind ws w)) ws c.args.users.now w} (is_there c.args.node results ws w c.args.users.now are c.args.place c.requires.user c.requires.leaves (slice_get_past ws c.args.place (omega (arith, c.if-place-len.true))))

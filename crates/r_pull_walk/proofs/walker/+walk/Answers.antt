@@ -1,5 +1,5 @@
 -- Each node and region that is walked is one more of those that are written.
-use Rattle.std.proofs.Common.{◌≡◌, ◌+◌, ◌-◌, List, ◌∷◌, ◌++◌, [], length, drop, drop_of_length-le, refl, ap, ap₂, sym, subst, ◌∙◌, arith}
+use Rattle.std.proofs.Common.{◌≡◌, ◌+◌, ◌-◌, List, ◌∷◌, [], length, drop, drop_of_length-le, ap, ap₂, sym, subst, ◌∙◌, arith}
 use Rattle.std.proofs.lemmas.List.{append-nil, drop_more}
 use Rattle.std.specs.Prelude.{OnOk}
 use Rattle.g_graph.specs.declared.op.Origin.{Origin}
@@ -27,13 +27,13 @@ pub walk_nodes-loop-i-preserved : goal.walk_nodes-loop-i-preserved
 walk_nodes-loop-i-preserved t c =
     let items = c.args.nodes.now in
     let i = c.loop-i.i in
-    let x = c.index.result.now in
+    let x = c.index-nodes-i.result in
     let start = walking c.args.counts.now.values c.args.counts.now.next c.args.log.now.items in
     let now = walking c.loop-i.counts.values c.loop-i.counts.next c.loop-i.log.items in
     let then = walking c.walk_node.new.counts.values c.walk_node.new.counts.next c.walk_node.new.log.items in
     let one : (i - 1) + 1 ≡ i = omega (arith, c.loop-i-test.true) in
     let more : drop (i - 1) items ≡ x ∷ drop i items =
-    drop_more items (i - 1) x (omega (arith, c.loop-i-test.true, c.loop-i.auto.i)) ∙ ap₂ (λ y k. y ∷ drop k items) (sym c.index.ensures.value) one in
+    drop_more items (i - 1) x (omega (arith, c.loop-i-test.true, c.loop-i.auto.i)) ∙ ap₂ (λ y k. y ∷ drop k items) (sym c.index-nodes-i.is) one in
     record {
       along = λ results are empty.
           subst (λ ns. IsWritten results (walk_nodes (nodes_of ns) results start) c.walk_node.new.kept.written.items c.walk_node.new.kept.users then) (sym more)
@@ -63,13 +63,13 @@ pub walk_regions-loop-i-preserved : goal.walk_regions-loop-i-preserved
 walk_regions-loop-i-preserved t c =
     let items = c.args.regions.now in
     let i = c.loop-i.i in
-    let r = c.index.result.now in
+    let r = c.index-regions-i.result in
     let start = walking c.args.counts.now.values c.args.counts.now.next c.args.log.now.items in
     let now = walking c.loop-i.counts.values c.loop-i.counts.next c.loop-i.log.items in
     let then = walking c.walk_region.new.counts.values c.walk_region.new.counts.next c.walk_region.new.log.items in
     let one : (i - 1) + 1 ≡ i = omega (arith, c.loop-i-test.true) in
     let more : drop (i - 1) items ≡ r ∷ drop i items =
-    drop_more items (i - 1) r (omega (arith, c.loop-i-test.true, c.loop-i.auto.i)) ∙ ap₂ (λ y k. y ∷ drop k items) (sym c.index.ensures.value) one in
+    drop_more items (i - 1) r (omega (arith, c.loop-i-test.true, c.loop-i.auto.i)) ∙ ap₂ (λ y k. y ∷ drop k items) (sym c.index-regions-i.is) one in
     record {
       along = ap (λ made. record { regions = regions_behind made no_regions; now = then }) c.in_ok-push.ensures.items
           ∙ next_region r c.in_ok-walk_region.field-0 (regions_of (drop i items)) start now then c.loop-i.made.items c.loop-i.invariant.along c.in_ok-walk_region.ensures.ok

@@ -1,5 +1,5 @@
 -- One origin more.
-use Rattle.std.proofs.Common.{◌≡◌, ◌+◌, List, drop, drop_of_length-le, sym, ap, ◌∙◌}
+use Rattle.std.proofs.Common.{◌+◌, List, drop, drop_of_length-le, sym, ap, ◌∙◌}
 use Rattle.std.proofs.lemmas.List.{at_drop_more}
 use Rattle.g_graph.specs.declared.op.Origin.{Origin}
 use Rattle.r_pull_walk.specs.declared.users.User.{User}
