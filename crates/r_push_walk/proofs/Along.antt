@@ -1,5 +1,5 @@
 -- What is written with what is left makes the whole, node by node.
-use Rattle.std.proofs.Common.{◌≡◌, ◌<◌, ◌≤◌, ◌+◌, ◌*◌, ◌-◌, ◌^◌, arith, if◌then◌else◌, Bool, true, false, ℕ, suc, List, [], ◌∷◌, ◌++◌, map, length, refl, sym, ap, ap₂, subst, ◌∙◌}
+use Rattle.std.proofs.Common.{◌≡◌, ◌<◌, ◌≤◌, ◌+◌, ◌*◌, arith, if◌then◌else◌, Bool, true, false, ℕ, suc, List, [], ◌∷◌, ◌++◌, map, length, refl, sym, ap, ap₂, subst, ◌∙◌}
 use denote.Param.Weighed.{most}
 use Rattle.std.proofs.lemmas.List.{append_assoc}
 use Rattle.std.specs.Prelude.{IfOk, OnOk}
@@ -11,22 +11,19 @@ use Rattle.g_graph.specs.declared.op.Op.TheVariants.{Gamma}
 use Rattle.g_graph.specs.declared.op.Origin.{Origin}
 use Rattle.g_graph.specs.declared.op.Origin.TheVariants.{Arg, Out}
 use Rattle.g_graph.specs.declared.steps.Step.{Step}
-use Rattle.g_graph.specs.Plain.{PlainLambda, RegionTree, region, NodeTree, node, NodeTrees, no_nodes, node_then, RegionTrees, no_regions, region_then, nodes_of, regions_of, args_of, nodes_in, results_of, inputs_in, regions_in, region_size, node_size, nodes_size}
-use Rattle.g_graph.specs.Count.{saturated}
-use Rattle.g_graph.specs.Program.{lambda_values}
+use Rattle.g_graph.specs.Plain.{RegionTree, region, NodeTree, node, NodeTrees, no_nodes, node_then, RegionTrees, no_regions, region_then, nodes_of, regions_of, args_of, nodes_in, results_of, inputs_in, regions_in, region_size, node_size, nodes_size}
 use Rattle.g_graph.specs.Splice.{joined_nodes}
 use Rattle.g_graph.proofs.lemmas.Splices as splices
 use Rattle.g_graph.proofs.lemmas.Splices.{joined_assoc, nodes_of_append}
 use Rattle.r_push.specs.Edit.{outer}
-use Rattle.r_push_laws.specs.Walk.{Exit, shut, exit_of, is_loop, Cursor, Walking, WrittenNodes, leaves, node_now, gone, stayed, all_grown, outputs_of_left, widened_by, entered, after, at_start, walk_nodes, walk_node, walk_region, walk_regions, walked}
+use Rattle.r_push_laws.specs.Walk.{Exit, exit_of, is_loop, Cursor, Walking, WrittenNodes, leaves, node_now, gone, stayed, all_grown, outputs_of_left, widened_by, entered, after, at_start, walk_nodes, walk_node, walk_region, walk_regions}
 use Rattle.r_walk.specs.Moves.{AreMoves, origin_in}
 use Rattle.r_walk.specs.Walks.{HasGained}
 use Rattle.r_walk.specs.declared.moves.Moves.{Moves}
 use Rattle.r_walk_def.specs.Context.{joined_regions}
 use Rattle.r_walk_def.specs.Walk.{Moved, origin_now}
-use Rattle.r_push_walk.specs.declared.leaving.Outside.{Outside}
 use Rattle.r_push_walk.specs.declared.leaving.Place.{Place}
-use Rattle.r_push_walk.specs.Walks.{remade, walking, IsCursor, IsWalked}
+use Rattle.r_push_walk.specs.Walks.{remade, IsCursor, IsWalked}
 use Rattle.r_push_walk.proofs.Exits.{exit_so}
 
 pub origin_is : (m : Moves) (ms : List Moved) → AreMoves m ms → (o : Origin) → origin_in m [] o ≡ origin_now ms [] o
@@ -83,16 +80,6 @@ region_written (region args nodes results) exit start now written moves h =
     let t : WrittenNodes = walk_nodes nodes (at_start exit nodes results) start in
     let os : map (origin_in moves []) results ≡ map (origin_now t.moved []) results = origins_are moves t.moved h.moved results in
     λ i. record { region = region args (h.nodes i) (os i); now = h.now_is i }
-
--- the lambda, once its body is written
-pub body_walked : (l : PlainLambda) (values count : ℕ) (outside : Outside) (log : List Step) (body : RegionTree) (now : Walking) → count ≡ saturated (lambda_values l) → count < 2 ^ 64 - 1 → values ≡ count →
-    outside.inputs.items ≡ [] → outside.left.items ≡ [] → record { region = body; now = now } ≡ walk_region l.body shut (walking values outside log) →
-    record { lambda = record l { body = body }; steps = now.steps } ≡ walked (record { lambda = l; steps = log })
-body_walked l values count outside log body now counted less valued inputs left h =
-    let all : values ≡ lambda_values l = omega (arith, counted, less, valued) in
-    let start : walking values outside log ≡ record { values = lambda_values l; steps = log; inputs = []; left = [] } =
-    λ i. record { values = all i; steps = log; inputs = inputs i; left = left i } in
-    ap (λ z. record { lambda = record l { body = z.region }; steps = z.now.steps }) (h ∙ ap (walk_region l.body shut) start)
 
 -- ---- a node
 

@@ -1,14 +1,10 @@
 -- The exit of the regions of a node, and the values that come.
-use Rattle.std.specs.Prelude.{nat_le}
-use Rattle.std.proofs.Common.{◌≡◌, ◌≢◌, ◌||◌, ◌+◌, ◌<◌, ◌^◌, ℕ, Bool, true, false, List, [], ◌∷◌, map, length, refl, sym, ap, ◌∙◌, arith}
-use Rattle.std.proofs.lemmas.Bool.Decides.{nat_tests}
-use Rattle.limits.specs.Limits.{most_grown_values}
+use Rattle.std.proofs.Common.{◌≡◌, ◌≢◌, ℕ, List, [], ◌∷◌, map, length, refl, sym, ap, ◌∙◌, arith}
 use Rattle.g_graph.specs.declared.op.Op.{Op}
 use Rattle.g_graph.specs.declared.op.Op.TheVariants.{Gamma, Theta}
 use Rattle.g_graph.specs.declared.op.Origin.{Origin}
 use Rattle.g_graph.specs.Plain.{RegionTree, RegionTrees, no_regions, region_then, node, regions_of}
 use Rattle.g_graph.proofs.lemmas.Listed.{count_is}
-use Rattle.r_edit.specs.Size.{may_change_size}
 use Rattle.r_push_laws.specs.Walk.{exit_of, shut, choice, loop}
 
 pub many_choose : (id : ℕ) (ins : List Origin) (rs : List RegionTree) (count : ℕ) → count ≡ length rs → length ins ≢ 0 → choice count ≡ exit_of (node id Gamma ins (regions_of rs))
@@ -24,14 +20,6 @@ pub others_are_shut : (id : ℕ) (ins : List Origin) (rs : List RegionTree) → 
 others_are_shut id ins [] h = refl
 others_are_shut id ins (r ∷ []) h = absurd (h refl)
 others_are_shut id ins (r ∷ s ∷ rs) h = refl
-
--- 64 bits count the values of a lambda that may grow so
-pub grown_fits : (values more : ℕ) → values < 2 ^ 64 → may_change_size values more 0 ≡ true → values + more < 2 ^ 64
-grown_fits values more h e = by (nat_le more 0) refl e
-  where
-    by : (t : Bool) → nat_le more 0 ≡ t → (t || nat_le (values + more) (most_grown_values + 0)) ≡ true → values + more < 2 ^ 64
-    by true a f = grind (arith, nat_tests)
-    by false a f = grind (arith, nat_tests)
 
 -- it does not stand in which inputs there are
 pub exit_so : (f : Origin → Origin) (id : ℕ) (op : Op) (ins : List Origin) (rs : RegionTrees) → exit_of (node id op ins rs) ≡ exit_of (node id op (map f ins) rs)
