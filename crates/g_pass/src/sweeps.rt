@@ -11,7 +11,7 @@ ghost use Rattle.g_pass_def.specs.Sweep.{in_order, optimise, sweep, tried};
 ghost use Rattle.g_pass.specs.Sweep.{rules};
 
 use crate::Recipe;
-use crate::fast::{is_in_arena, swept_fast};
+use crate::fast::{arena_rules, is_in_arena, swept_fast, swept_together};
 use crate::rule_step::{is_backward, try_step};
 use g_graph::{Lambda, Optimised, Rule, Step, StepList, copy_of, ids, values};
 use no_memory::NoMemory;
@@ -106,9 +106,9 @@ fn sweep_steps(
 // arena takes longer than to ask it at each of its nodes.
 const LEAST_VALUES: u64 = 1024;
 
-// Whether a recipe sweeps the rule over the lambda at once. What it answers changes no result.
-fn is_at_once(rule: Rule, lambda: &Lambda) -> bool {
-    !is_in_arena(rule) || values(lambda) >= LEAST_VALUES
+// Whether a recipe puts the lambda into an arena. What it answers changes no result.
+fn is_large(lambda: &Lambda) -> bool {
+    values(lambda) >= LEAST_VALUES
 }
 
 // What a sweep makes of a lambda, of which no copy is made.
@@ -125,7 +125,7 @@ fn swept(
         (record { lambda = lambda; steps = log.old.items }) rule) }
     ensures kept { IfOk result (λ made. IsWellFormed made) }
 {
-    if is_at_once(rule, &lambda) {
+    if !is_in_arena(rule) || is_large(&lambda) {
         return swept_fast(alloc, rule, lambda, callees, log);
     }
     let mut lambda = lambda;
@@ -155,8 +155,16 @@ pub fn optimise(
     let before = values(&lambda) as u32;
     let mut lambda = lambda;
     let mut log = Vec::new(alloc);
-    for rule in recipe.as_slice() {
-        lambda = swept(alloc, *rule, lambda, callees, &mut log)?;
+    let mut left = recipe.as_slice();
+    while let Some((rule, later)) = left.split_first() {
+        let (here, after) = left.split_at(arena_rules(left));
+        if here.len() > 1 && is_large(&lambda) {
+            lambda = swept_together(alloc, here, lambda, &mut log)?;
+            left = after;
+        } else {
+            lambda = swept(alloc, *rule, lambda, callees, &mut log)?;
+            left = later;
+        }
     }
     Ok(Optimised {
         lambda,
