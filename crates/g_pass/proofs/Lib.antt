@@ -5,3 +5,4 @@ mod OneRecipe
 mod Inlined
 mod Folds
 mod FastSweeps
+mod Kept

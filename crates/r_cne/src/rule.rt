@@ -1,12 +1,11 @@
 //! Where the rule applies, and what it does there.
 
-ghost use Rattle.std.specs.Prelude.{◌≡◌, MatchBool, IsTrue, is_some};
+ghost use Rattle.std.specs.Prelude.{◌≡◌, List, MatchBool, IsTrue, is_some};
 ghost use Rattle.std.specs.declared.option.Option.TheVariants.{Some, None};
+ghost use Rattle.g_graph.specs.Plain.{PlainLambda};
 ghost use Rattle.g_graph.specs.WellFormed.{IsWellFormed};
-ghost use Rattle.g_graph.specs.Program.{lambda_values, KeepsPrograms};
-ghost use Rattle.g_mean.specs.Edits.{KeepsMeaning, KeepsComplete};
 ghost use Rattle.g_graph.specs.declared.op.Origin.TheVariants.{Out};
-ghost use Rattle.r_edit.specs.Size.{IsNoLarger};
+ghost use Rattle.r_edit.specs.Steps.{MayStandFor};
 ghost use Rattle.r_cne.specs.Rule.{cne_here, applies, cne};
 
 use crate::find::earlier;
@@ -32,11 +31,7 @@ pub fn apply(lambda: &mut Lambda, node: u32)
     requires well_formed { IsWellFormed lambda.old }
     requires applies { IsTrue (applies lambda.old node) }
     ensures defined { lambda.new ≡ cne node lambda.old }
-    ensures kept { IsWellFormed lambda.new }
-    ensures meaning { KeepsMeaning lambda.old lambda.new }
-    ensures list { KeepsComplete lambda.old lambda.new }
-    ensures program { KeepsPrograms lambda.old lambda.new }
-    ensures size { IsNoLarger (lambda_values lambda.old) (lambda_values lambda.new) }
+    ensures step { (held : List PlainLambda) → MayStandFor held lambda.old lambda.new }
 {
     match change_lambda(lambda, &mut Common { node }) {
         Ok(_) => (),

@@ -1,11 +1,10 @@
 //! Where the rule applies, and what it does there.
 
-ghost use Rattle.std.specs.Prelude.{◌≡◌, MatchBool, IfOk, OnOk, OnErr, IsTrue};
+ghost use Rattle.std.specs.Prelude.{◌≡◌, List, MatchBool, IfOk, OnOk, OnErr, IsTrue};
 ghost use Rattle.std.specs.declared.option.Option.TheVariants.{Some, None};
+ghost use Rattle.g_graph.specs.Plain.{PlainLambda};
 ghost use Rattle.g_graph.specs.WellFormed.{IsWellFormed};
-ghost use Rattle.g_graph.specs.Program.{lambda_values, KeepsPrograms};
-ghost use Rattle.r_edit.specs.Size.{IsNoLarger};
-ghost use Rattle.g_mean.specs.Edits.{KeepsMeaning, KeepsComplete};
+ghost use Rattle.r_edit.specs.Steps.{MayStandFor};
 ghost use Rattle.r_inv.specs.Rule.{inv_here, applies, inv};
 ghost use Rattle.r_inv.specs.Plan.{carried_out, fits};
 
@@ -34,11 +33,8 @@ pub fn apply(alloc: Global, lambda: &mut Lambda, node: u32) -> Result<(), NoMemo
     requires well_formed { IsWellFormed lambda.old }
     requires applies { IsTrue (applies lambda.old node) }
     ensures ok { OnOk result (lambda.new ≡ inv node lambda.old) }
-    ensures kept { OnOk result (IsWellFormed lambda.new) }
-    ensures meaning { OnOk result (KeepsMeaning lambda.old lambda.new) }
-    ensures list { OnOk result (KeepsComplete lambda.old lambda.new) }
-    ensures program { OnOk result (KeepsPrograms lambda.old lambda.new) }
-    ensures size { OnOk result (IsNoLarger (lambda_values lambda.old) (lambda_values lambda.new)) }
+    ensures step { OnOk result ((held : List PlainLambda) →
+        MayStandFor held lambda.old lambda.new) }
     ensures err { OnErr result (lambda.new ≡ lambda.old) }
 {
     change_lambda(lambda, &mut Redirection { alloc, node })?;
