@@ -64,10 +64,10 @@ pub inlined_is_a_step : IlnIsAStep → (held : List PlainLambda) (n : ℕ) (l k 
 inlined_is_a_step iln held n l k well all e =
     let at = is_inlined held n l k e in
     let one = iln n at.callee l (numbered_all IsWellFormed at.number held at.callee at.found all) well at.can in
-    subst (MayStandFor held l) at.is
-    (record {
+    let made : MayStandFor held l (inline_rule.iln n at.callee l) = record {
       interface = one.interface;
       well_formed = one.well_formed;
       values = one.values;
       lists = λ ls there each. one.lists ls there (numbered_there ls at.number held at.callee at.found each, tt);
-    })
+    } in
+    subst (MayStandFor held l) at.is made
