@@ -32,7 +32,7 @@ use Rattle.r_edit.specs.Uses.{uses_replaced}
 use Rattle.r_edit.specs.Size.{IsResized}
 use Rattle.r_edit.proofs.lemmas.Fewer.{uses-resized}
 use Rattle.r_edit.specs.Steps.{IsSafeChange}
-use Rattle.r_edit.proofs.lemmas.Steps.{kept_well_formed, safe_changes_are_steps}
+use Rattle.r_edit.proofs.lemmas.Steps.{kept_well_formed, changed_is_a_step}
 use Rattle.r_edit.proofs.lemmas.Lookup.{Among, first_before}
 use Rattle.r_edit.proofs.lemmas.Uses.{replaced_is, uses_kept, known_value, uses_ops}
 use Rattle.r_edit.proofs.lemmas.Meant.{has-run}
@@ -209,5 +209,4 @@ pub cne_stays : (n : ℕ) (l : PlainLambda) → IsWellFormed l → IsWellFormed 
 cne_stays n l well = kept_well_formed (cne_here n) l (λ r s e fits numbers. cne_here_keeps (length l.objects) l.next n r s e fits numbers) well
 
 pub cne_is_a_step : CneIsAStep
-cne_is_a_step held n l well =
-    safe_changes_are_steps (cne_here n) l (cne n l) well (cne_stays n l well) (record { number = refl; params = refl; objects = refl; body = refl }) (cne_is_safe n l) held
+cne_is_a_step held n l well = changed_is_a_step (cne_here n) l well (cne_stays n l well) (cne_is_safe n l) held

@@ -45,6 +45,7 @@ struct Common {
 
 impl RegionRule for Common {
     type Memory = ();
+
     type Fault = Infallible;
 
     ghost here = { λ c. cne_here c.node };

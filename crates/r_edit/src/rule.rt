@@ -46,7 +46,11 @@ pub fn applies<R: RegionRule>(rule: &R, lambda: &Lambda) -> bool
 
 /// Changes the first region, in pre-order, of the lambda's body and those nested in it that the rule
 /// can change. It takes time linear in the lambda, and the time of `make`.
-pub fn apply<R: RegionRule>(rule: &R, memory: R::Memory, lambda: &mut Lambda) -> Result<(), R::Fault>
+pub fn apply<R: RegionRule>(
+    rule: &R,
+    memory: R::Memory,
+    lambda: &mut Lambda,
+) -> Result<(), R::Fault>
     requires well_formed { IsWellFormed lambda.old }
     requires safe { IsSafeChange (R.here rule.now) lambda.old }
     requires stays { IsWellFormed (lambda_changed (R.here rule.now) lambda.old) }
