@@ -10,7 +10,7 @@ use Rattle.g_graph.specs.declared.op.Origin.TheVariants.{Out}
 use Rattle.g_graph.specs.Plain.{RegionTree, region, NodeTree, node, NodeTrees, no_nodes, node_then, RegionTrees, id_of, PlainLambda}
 use Rattle.g_graph.specs.Ids.{region_ids, nodes_ids}
 use Rattle.g_graph.specs.Scope.{known}
-use Rattle.g_graph.specs.WellFormed.{region_fits, every_region}
+use Rattle.g_graph.specs.WellFormed.{region_fits, every_region, IsWellFormed}
 use Rattle.g_graph.specs.Nodes.{node_at}
 use Rattle.g_graph.specs.Splice.{joined_nodes}
 use Rattle.g_graph.specs.Program.{lambda_values}
@@ -31,11 +31,12 @@ use Rattle.r_edit.specs.Lookup.{first_of}
 use Rattle.r_edit.specs.Uses.{uses_replaced}
 use Rattle.r_edit.specs.Size.{IsResized}
 use Rattle.r_edit.proofs.lemmas.Fewer.{uses-resized}
-use Rattle.r_edit.proofs.lemmas.Steps.{kept_changes_are_steps}
+use Rattle.r_edit.specs.Steps.{IsSafeChange}
+use Rattle.r_edit.proofs.lemmas.Steps.{kept_well_formed, changed_is_a_step}
 use Rattle.r_edit.proofs.lemmas.Lookup.{Among, first_before}
 use Rattle.r_edit.proofs.lemmas.Uses.{replaced_is, uses_kept, known_value, uses_ops}
 use Rattle.r_edit.proofs.lemmas.Meant.{has-run}
-use Rattle.r_cne.specs.Rule.{is_common, other_than, earlier, cne_here}
+use Rattle.r_cne.specs.Rule.{is_common, other_than, earlier, cne_here, cne}
 use Rattle.r_cne.specs.Laws.{CneReplaces, CneIsAStep}
 use Rattle.r_cne.proofs.Common.{gives_value, ran_gives}
 
@@ -195,12 +196,17 @@ cne_resizes values n (region args ns results) s e =
 
 -- ---- the step
 
-pub cne_is_a_step : CneIsAStep
-cne_is_a_step held n l well =
-    kept_changes_are_steps (cne_here n) l well (λ r s e fits numbers. cne_here_keeps (length l.objects) l.next n r s e fits numbers)
-    (record {
+pub cne_is_safe : (n : ℕ) (l : PlainLambda) → IsSafeChange (cne_here n) l
+cne_is_safe n l =
+    record {
       replaces = λ ls ks r s part e. cne_replaces ls ks n l r s part e;
       calls = λ ls r s e h. cne_here_ops (Calls ls) n r s e h;
       names = λ globals r s e h. cne_here_ops (NamesGlobal globals) n r s e h;
       resized = λ r s e. cne_resizes (lambda_values l) n r s e;
-    }) held
+    }
+
+pub cne_stays : (n : ℕ) (l : PlainLambda) → IsWellFormed l → IsWellFormed (cne n l)
+cne_stays n l well = kept_well_formed (cne_here n) l (λ r s e fits numbers. cne_here_keeps (length l.objects) l.next n r s e fits numbers) well
+
+pub cne_is_a_step : CneIsAStep
+cne_is_a_step held n l well = changed_is_a_step (cne_here n) l well (cne_stays n l well) (cne_is_safe n l) held

@@ -9,10 +9,8 @@ ghost use Rattle.r_edit.specs.Steps.{MayStandFor};
 ghost use Rattle.r_cne.specs.Rule.{cne_here, applies, cne};
 
 use crate::find::earlier;
-use g_graph::{
-    CanChange, Change, Lambda, Origin, Region, can_change_lambda, change_lambda, is_used,
-};
-use r_edit::replace_used;
+use g_graph::{Lambda, Origin, Region, is_used};
+use r_edit::{RegionRule, replace_used};
 use std::convert::Infallible;
 
 /// Whether the rule applies at the node of this number: a Const, Local, Delta, Bin, Un, Load or
@@ -22,7 +20,7 @@ use std::convert::Infallible;
 pub fn applies(lambda: &Lambda, node: u32) -> bool
     ensures { result ≡ applies lambda.now node }
 {
-    can_change_lambda(lambda, &Common { node })
+    r_edit::applies(&Common { node }, lambda)
 }
 
 /// Uses of the node's output become uses of the output of the first node of its region with equal
@@ -33,32 +31,30 @@ pub fn apply(lambda: &mut Lambda, node: u32)
     ensures defined { lambda.new ≡ cne node lambda.old }
     ensures step { (held : List PlainLambda) → MayStandFor held lambda.old lambda.new }
 {
-    match change_lambda(lambda, &mut Common { node }) {
-        Ok(_) => (),
+    match r_edit::apply(&Common { node }, (), lambda) {
+        Ok(()) => (),
         Err(never) => match never {},
     }
 }
 
-// The change of the region that holds the node, and its test.
+// The rule at the node of this number.
 #[derive(Drop)]
 struct Common {
     node: u32,
 }
 
-impl CanChange for Common {
-    ghost changed = { λ c. cne_here c.node };
+impl RegionRule for Common {
+    type Memory = ();
 
-    fn can_change(&self, region: &Region) -> bool {
-        can_replace(region, self.node)
-    }
-}
-
-impl Change for Common {
     type Fault = Infallible;
 
-    ghost changed = { λ c. cne_here c.node };
+    ghost here = { λ c. cne_here c.node };
 
-    fn make(&mut self, region: &mut Region) -> Result<bool, Infallible> {
+    fn can(&self, region: &Region) -> bool {
+        can_replace(region, self.node)
+    }
+
+    fn make(&self, _memory: (), region: &mut Region) -> Result<bool, Infallible> {
         Ok(replace(region, self.node))
     }
 }

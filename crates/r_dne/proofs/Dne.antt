@@ -13,7 +13,7 @@ use Rattle.g_graph.specs.Ids.{region_ids, nodes_ids}
 use Rattle.g_graph.specs.Signatures.{first_args, outputs_of, output_kinds}
 use Rattle.g_graph.specs.Scope.{is_of}
 use Rattle.g_graph.specs.Change.{has_node}
-use Rattle.g_graph.specs.WellFormed.{some_of, region_fits, every_region}
+use Rattle.g_graph.specs.WellFormed.{some_of, region_fits, every_region, IsWellFormed}
 use Rattle.g_graph.specs.Nodes.{node_at}
 use Rattle.g_graph.specs.Replace.{nodes_redirected}
 use Rattle.g_graph.specs.Splice.{joined_nodes}
@@ -39,13 +39,14 @@ use Rattle.r_edit.proofs.lemmas.EntriesFit.{entries_kept_fit, entries_kept_ops}
 use Rattle.r_edit.proofs.lemmas.Exits.{giving_joined}
 use Rattle.r_edit.proofs.lemmas.ExitsFit.{exits_kept_fit, exits_kept_ops}
 use Rattle.r_edit.proofs.lemmas.Fewer.{without-resized, variables-resized, exits-and-entries-resized}
-use Rattle.r_edit.proofs.lemmas.Steps.{kept_changes_are_steps}
+use Rattle.r_edit.specs.Steps.{IsSafeChange}
+use Rattle.r_edit.proofs.lemmas.Steps.{kept_well_formed, changed_is_a_step}
 use Rattle.r_edit.proofs.lemmas.Placed.{not_before}
 use Rattle.r_edit.proofs.lemmas.Removal.{unread_nodes_go, without_kept, without_ops}
 use Rattle.r_edit.proofs.lemmas.Shrunk.{unread_exits_and_entries_go}
 use Rattle.r_edit.proofs.lemmas.Variables.{unread_variables_go}
 use Rattle.r_edit.proofs.lemmas.VariablesFit.{variables_kept_fit, variables_kept_ops}
-use Rattle.r_dne.specs.Rule.{gives_state, is_dead, exits_of, entries_of, variables_of, shrunk, eliminated, dne_here}
+use Rattle.r_dne.specs.Rule.{gives_state, is_dead, exits_of, entries_of, variables_of, shrunk, eliminated, dne_here, dne}
 use Rattle.r_dne.specs.Laws.{DneReplaces, DneIsAStep}
 use Rattle.r_dne.proofs.Unused.{exits_are_values, exits_unread, entries_unread, variables_are_values, variables_unread, loop_unread}
 
@@ -352,12 +353,17 @@ calls_ask ks = record { gamma = λ m n h. h; theta = λ m n h. h }
 globals_ask : (count : ℕ) → AsksNoCount (NamesGlobal count)
 globals_ask count = record { gamma = λ m n h. h; theta = λ m n h. h }
 
-pub dne_is_a_step : DneIsAStep
-dne_is_a_step held n l well =
-    kept_changes_are_steps (dne_here n) l well (λ r s e fits numbers. dne_here_keeps (length l.objects) l.next n r s e fits numbers)
-    (record {
+pub dne_is_safe : (n : ℕ) (l : PlainLambda) → IsSafeChange (dne_here n) l
+dne_is_safe n l =
+    record {
       replaces = λ ls ks r s part e. dne_replaces ls ks n l r s part e;
       calls = λ ls r s e h. dne_here_ops (Calls ls) (calls_ask ls) n r s e h;
       names = λ globals r s e h. dne_here_ops (NamesGlobal globals) (globals_ask globals) n r s e h;
       resized = λ r s e. dne_resizes (lambda_values l) n r s e;
-    }) held
+    }
+
+pub dne_stays : (n : ℕ) (l : PlainLambda) → IsWellFormed l → IsWellFormed (dne n l)
+dne_stays n l well = kept_well_formed (dne_here n) l (λ r s e fits numbers. dne_here_keeps (length l.objects) l.next n r s e fits numbers) well
+
+pub dne_is_a_step : DneIsAStep
+dne_is_a_step held n l well = changed_is_a_step (dne_here n) l well (dne_stays n l well) (dne_is_safe n l) held

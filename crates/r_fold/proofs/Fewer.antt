@@ -11,9 +11,10 @@ use Rattle.g_graph.specs.declared.op.Op.TheVariants.{Const, Undef, Local, Delta,
 use Rattle.g_graph.specs.declared.op.Kind.{Kind}
 use Rattle.g_graph.specs.declared.op.Origin.{Origin}
 use Rattle.g_graph.specs.declared.op.Origin.TheVariants.{Out}
-use Rattle.g_graph.specs.Plain.{RegionTree, region, NodeTree, node, NodeTrees, no_nodes, node_then, RegionTrees, no_regions, region_then, id_of, nodes_in}
+use Rattle.g_graph.specs.Plain.{RegionTree, region, NodeTree, node, NodeTrees, no_nodes, node_then, RegionTrees, no_regions, region_then, id_of, nodes_in, PlainLambda}
 use Rattle.g_graph.specs.Lists.{Calls, NamesGlobal}
 use Rattle.g_graph.specs.Count.{region_values, node_values, nodes_values, regions_values}
+use Rattle.g_graph.specs.WellFormed.{IsWellFormed}
 use Rattle.g_graph.specs.Nodes.{node_at, node_set, constant, is_used}
 use Rattle.g_graph.specs.Program.{lambda_values}
 use Rattle.g_graph.specs.Replace.{nodes_redirected, region_redirected, origin_replaced}
@@ -23,8 +24,9 @@ use Rattle.g_graph.proofs.lemmas.Splices.{nodes_values-joined}
 use Rattle.r_edit.specs.Size.{IsResized}
 use Rattle.r_edit.proofs.lemmas.Fewer.{no-more}
 use Rattle.r_edit.proofs.lemmas.Size.{redirected-resized}
-use Rattle.r_edit.proofs.lemmas.Steps.{kept_changes_are_steps}
-use Rattle.r_fold.specs.Rule.{is_word, left_neutral, right_neutral, Folded, word, input, replacement, bin_folded, gamma_folded, theta_folded, chosen_region, folding, folded, fold_here}
+use Rattle.r_edit.specs.Steps.{IsSafeChange}
+use Rattle.r_edit.proofs.lemmas.Steps.{kept_well_formed, changed_is_a_step}
+use Rattle.r_fold.specs.Rule.{is_word, left_neutral, right_neutral, Folded, word, input, replacement, bin_folded, gamma_folded, theta_folded, chosen_region, folding, folded, fold_here, fold}
 use Rattle.r_fold.specs.Laws.{FoldIsAStep}
 use Rattle.r_fold.proofs.Fold.{fold_replaces}
 use Rattle.r_fold.proofs.Keeps.{fold_here_keeps}
@@ -178,12 +180,17 @@ fold_resizes values n (region args ns results) s e = by-node (node_at n ns) refl
 
 -- ---- the step
 
-pub fold_is_a_step : FoldIsAStep
-fold_is_a_step held n l well =
-    kept_changes_are_steps (fold_here n) l well (λ r s e fits numbers. fold_here_keeps (length l.objects) l.next n r s e fits numbers)
-    (record {
+pub fold_is_safe : (n : ℕ) (l : PlainLambda) → IsSafeChange (fold_here n) l
+fold_is_safe n l =
+    record {
       replaces = λ ls ks r s part e. fold_replaces ls ks n l r s part e;
       calls = λ ls r s e h. here_ops (Calls ls) (λ w. tt) n r s e h;
       names = λ globals r s e h. here_ops (NamesGlobal globals) (λ w. tt) n r s e h;
       resized = λ r s e. fold_resizes (lambda_values l) n r s e;
-    }) held
+    }
+
+pub fold_stays : (n : ℕ) (l : PlainLambda) → IsWellFormed l → IsWellFormed (fold n l)
+fold_stays n l well = kept_well_formed (fold_here n) l (λ r s e fits numbers. fold_here_keeps (length l.objects) l.next n r s e fits numbers) well
+
+pub fold_is_a_step : FoldIsAStep
+fold_is_a_step held n l well = changed_is_a_step (fold_here n) l well (fold_stays n l well) (fold_is_safe n l) held

@@ -12,8 +12,9 @@ ghost use Rattle.r_fold.specs.Plan.{planned};
 use crate::edit::{can_carry_out, carry_out};
 use crate::plan::{Plan, plain_plan};
 use crate::replacement::{has_replacement, replacement_plan};
-use g_graph::{CanChange, Change, Lambda, Node, Region, can_change_lambda, change_lambda, node_at};
+use g_graph::{Lambda, Node, Region, node_at};
 use no_memory::NoMemory;
+use r_edit::RegionRule;
 use std::alloc::Global;
 
 /// Whether the rule applies at the node of this number: a Bin or Un node whose inputs are
@@ -23,7 +24,7 @@ use std::alloc::Global;
 pub fn applies(lambda: &Lambda, node: u32) -> bool
     ensures { result ≡ applies lambda.now node }
 {
-    can_change_lambda(lambda, &Folding { node })
+    r_edit::applies(&Folding { node }, lambda)
 }
 
 /// Folds the node: it becomes the constant that it gives, its uses become uses of the other
@@ -37,24 +38,31 @@ pub fn apply(alloc: Global, lambda: &mut Lambda, node: u32) -> Result<(), NoMemo
         MayStandFor held lambda.old lambda.new) }
     ensures err { OnErr result (lambda.new ≡ lambda.old) }
 {
-    change_lambda(lambda, &mut Fold { alloc, node })?;
-    Ok(())
+    r_edit::apply(&Folding { node }, alloc, lambda)
 }
 
-// The test whether a region holds the node and the node can be folded.
+// The rule at the node of this number.
 #[derive(Drop)]
 struct Folding {
     node: u32,
 }
 
-impl CanChange for Folding {
-    ghost changed = { λ f. fold_here f.node };
+impl RegionRule for Folding {
+    type Memory = Global;
 
-    fn can_change(&self, region: &Region) -> bool {
+    type Fault = NoMemory;
+
+    ghost here = { λ r. fold_here r.node };
+
+    fn can(&self, region: &Region) -> bool {
         match node_at(&region.nodes, self.node) {
             Some(node) => node_folds(region, self.node, node),
             None => false,
         }
+    }
+
+    fn make(&self, alloc: Global, region: &mut Region) -> Result<bool, NoMemory> {
+        fold_region(alloc, region, self.node)
     }
 }
 
@@ -66,23 +74,6 @@ fn node_folds(region: &Region, id: u32, node: &Node) -> bool
     match plain_plan(&region.nodes, node) {
         Some(plan) => can_carry_out(region, id, &plan),
         None => has_replacement(&region.nodes, node),
-    }
-}
-
-// The change of the region that holds the node.
-#[derive(Drop)]
-struct Fold {
-    alloc: Global,
-    node: u32,
-}
-
-impl Change for Fold {
-    type Fault = NoMemory;
-
-    ghost changed = { λ f. fold_here f.node };
-
-    fn make(&mut self, region: &mut Region) -> Result<bool, NoMemory> {
-        fold_region(self.alloc, region, self.node)
     }
 }
 

@@ -14,7 +14,7 @@ use Rattle.g_graph.specs.Ids.{region_ids, nodes_ids}
 use Rattle.g_graph.specs.Signatures.{joined, outputs_of}
 use Rattle.g_graph.specs.Scope.{same_kind}
 use Rattle.g_graph.specs.Change.{has_node}
-use Rattle.g_graph.specs.WellFormed.{is_origin, region_fits, every_region}
+use Rattle.g_graph.specs.WellFormed.{is_origin, region_fits, every_region, IsWellFormed}
 use Rattle.g_graph.specs.Nodes.{node_at}
 use Rattle.g_graph.specs.Splice.{joined_nodes}
 use Rattle.g_graph.specs.Lists.{RegionOps, Calls, NamesGlobal}
@@ -33,9 +33,10 @@ use Rattle.r_edit.specs.Carried.{passed, output_carried, exits_carried}
 use Rattle.r_edit.proofs.lemmas.Carried.{carried_exits_go, carried_uses_move}
 use Rattle.r_edit.proofs.lemmas.CarriedExits.{exits_carried_fit, exits_carried_ops}
 use Rattle.r_edit.proofs.lemmas.Fewer.{outputs-resized, carried-resized}
-use Rattle.r_edit.proofs.lemmas.Steps.{kept_changes_are_steps}
+use Rattle.r_edit.specs.Steps.{IsSafeChange}
+use Rattle.r_edit.proofs.lemmas.Steps.{kept_well_formed, changed_is_a_step}
 use Rattle.r_edit.proofs.lemmas.CarriedUses.{uses_carried_fit, outputs_redirected_ops}
-use Rattle.r_inv.specs.Rule.{exits_from, variables_from, some_used, carried_exits, carried_variables, moved, inv_here}
+use Rattle.r_inv.specs.Rule.{exits_from, variables_from, some_used, carried_exits, carried_variables, moved, inv_here, inv}
 use Rattle.r_inv.specs.Laws.{InvReplaces, InvIsAStep}
 
 -- ---- what is carried
@@ -270,12 +271,17 @@ inv_resizes values n (region args ns results) s e =
 
 -- ---- the step
 
-pub inv_is_a_step : InvIsAStep
-inv_is_a_step held n l well =
-    kept_changes_are_steps (inv_here n) l well (λ r s e fits numbers. inv_here_keeps (length l.objects) l.next n r s e fits numbers)
-    (record {
+pub inv_is_safe : (n : ℕ) (l : PlainLambda) → IsSafeChange (inv_here n) l
+inv_is_safe n l =
+    record {
       replaces = λ ls ks r s part e. inv_replaces ls ks n l r s part e;
       calls = λ ls r s e h. inv_here_ops (Calls ls) n r s e h;
       names = λ globals r s e h. inv_here_ops (NamesGlobal globals) n r s e h;
       resized = λ r s e. inv_resizes (lambda_values l) n r s e;
-    }) held
+    }
+
+pub inv_stays : (n : ℕ) (l : PlainLambda) → IsWellFormed l → IsWellFormed (inv n l)
+inv_stays n l well = kept_well_formed (inv_here n) l (λ r s e fits numbers. inv_here_keeps (length l.objects) l.next n r s e fits numbers) well
+
+pub inv_is_a_step : InvIsAStep
+inv_is_a_step held n l well = changed_is_a_step (inv_here n) l well (inv_stays n l well) (inv_is_safe n l) held

@@ -10,9 +10,9 @@ ghost use Rattle.r_inv.specs.Plan.{carried_out, fits};
 
 use crate::find::{can_redirect, plan_at};
 use crate::plan::Plan;
-use g_graph::{CanChange, Change, Lambda, Region, can_change_lambda, change_lambda};
+use g_graph::{Lambda, Region};
 use no_memory::NoMemory;
-use r_edit::{carry_exits, carry_uses};
+use r_edit::{RegionRule, carry_exits, carry_uses};
 use std::alloc::Global;
 
 /// Whether the rule applies at the node of this number: a Gamma with exits, states too, that in
@@ -23,7 +23,7 @@ use std::alloc::Global;
 pub fn applies(lambda: &Lambda, node: u32) -> bool
     ensures { result ≡ applies lambda.now node }
 {
-    can_change_lambda(lambda, &Redirecting { node })
+    r_edit::applies(&Redirecting { node }, lambda)
 }
 
 /// Uses of each such output become uses of that origin, or of the variable's input; of a Gamma all
@@ -37,38 +37,28 @@ pub fn apply(alloc: Global, lambda: &mut Lambda, node: u32) -> Result<(), NoMemo
         MayStandFor held lambda.old lambda.new) }
     ensures err { OnErr result (lambda.new ≡ lambda.old) }
 {
-    change_lambda(lambda, &mut Redirection { alloc, node })?;
-    Ok(())
+    r_edit::apply(&Redirecting { node }, alloc, lambda)
 }
 
-// The test of the region that holds the node.
+// The rule at the node of this number.
 #[derive(Drop)]
 struct Redirecting {
     node: u32,
 }
 
-impl CanChange for Redirecting {
-    ghost changed = { λ e. inv_here e.node };
+impl RegionRule for Redirecting {
+    type Memory = Global;
 
-    fn can_change(&self, region: &Region) -> bool {
-        can_redirect(region, self.node)
-    }
-}
-
-// The change of the region that holds the node.
-#[derive(Drop)]
-struct Redirection {
-    alloc: Global,
-    node: u32,
-}
-
-impl Change for Redirection {
     type Fault = NoMemory;
 
-    ghost changed = { λ e. inv_here e.node };
+    ghost here = { λ r. inv_here r.node };
 
-    fn make(&mut self, region: &mut Region) -> Result<bool, NoMemory> {
-        redirect(self.alloc, region, self.node)
+    fn can(&self, region: &Region) -> bool {
+        can_redirect(region, self.node)
+    }
+
+    fn make(&self, alloc: Global, region: &mut Region) -> Result<bool, NoMemory> {
+        redirect(alloc, region, self.node)
     }
 }
 

@@ -14,7 +14,7 @@ use Rattle.g_graph.specs.Lists.{RegionOps, NodeOps, NodesOps, RegionsOps, Calls,
 use Rattle.g_graph.specs.Program.{lambda_values}
 use Rattle.g_graph.specs.Replace.{region_redirected, origin_replaced}
 use Rattle.g_graph.specs.Splice.{args_to_inputs, joined_nodes}
-use Rattle.g_graph.specs.WellFormed.{region_fits, every_region}
+use Rattle.g_graph.specs.WellFormed.{region_fits, every_region, IsWellFormed}
 use Rattle.g_graph.proofs.lemmas.Nodes.{KeptWithin}
 use Rattle.g_graph.proofs.lemmas.Numbers.{Numbered}
 use Rattle.g_graph.proofs.lemmas.Ops.{region_redirected_ops, joined_ops, split-ops}
@@ -22,8 +22,9 @@ use Rattle.g_mean.specs.Edits.{IsPartOf}
 use Rattle.g_mean.proofs.lemmas.Closed.{region-closed}
 use Rattle.r_edit.specs.Added.{arg_added, input_added}
 use Rattle.r_edit.proofs.lemmas.Removal.{without_ops}
-use Rattle.r_edit.proofs.lemmas.Steps.{kept_changes_are_steps}
-use Rattle.r_push.specs.Rule.{names_argument, leaving, leaving_one, leaving_loop, carried, regions_carried, looped, placed, pushed, psh_here, is_invariant}
+use Rattle.r_edit.specs.Steps.{IsSafeChange}
+use Rattle.r_edit.proofs.lemmas.Steps.{kept_well_formed, changed_is_a_step}
+use Rattle.r_push.specs.Rule.{names_argument, leaving, leaving_one, leaving_loop, carried, regions_carried, looped, placed, pushed, psh_here, is_invariant, psh}
 use Rattle.r_push.specs.Laws.{PshIsAStep}
 use Rattle.r_push.proofs.Leaving.{Leaves, leaves}
 use Rattle.r_push.proofs.Replaced.{changed-at, psh_replaces}
@@ -116,12 +117,17 @@ module _ (p : Op → ℕ → Type 0) (gamma : (m k : ℕ) → p Gamma m → p Ga
 
 -- ---- the step
 
-pub psh_is_a_step : PshIsAStep
-psh_is_a_step held n l well =
-    kept_changes_are_steps (psh_here (lambda_values l) n) l well (λ r s e fits numbers. here-keeps l (lambda_values l) n r s e fits numbers)
-    (record {
+pub psh_is_safe : (n : ℕ) (l : PlainLambda) → IsSafeChange (psh_here (lambda_values l) n) l
+psh_is_safe n l =
+    record {
       replaces = λ ls ks r s part e. psh_replaces ls ks (lambda_values l) n l r s part e;
       calls = λ ls r s e h. here-ops (Calls ls) (λ m k d. d) (λ m k d. d) (lambda_values l) n r s e h;
       names = λ globals r s e h. here-ops (NamesGlobal globals) (λ m k d. d) (λ m k d. d) (lambda_values l) n r s e h;
       resized = λ r s e. psh_resizes (lambda_values l) n r s e;
-    }) held
+    }
+
+pub psh_stays : (n : ℕ) (l : PlainLambda) → IsWellFormed l → IsWellFormed (psh n l)
+psh_stays n l well = kept_well_formed (psh_here (lambda_values l) n) l (λ r s e fits numbers. here-keeps l (lambda_values l) n r s e fits numbers) well
+
+pub psh_is_a_step : PshIsAStep
+psh_is_a_step held n l well = changed_is_a_step (psh_here (lambda_values l) n) l well (psh_stays n l well) (psh_is_safe n l) held

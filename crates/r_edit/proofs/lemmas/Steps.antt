@@ -170,7 +170,7 @@ module _ (here : RegionTree → Option RegionTree) (l k : PlainLambda) (well : I
 pub safe_changes_are_steps : SafeChangesAreSteps
 safe_changes_are_steps here l k well now edited safe held = changed_stands_for here l k well now edited safe held
 
--- A lambda stays well formed where no changed region has numbers but its own,
+-- A lambda stays well formed where no changed region has numbers but its own.
 pub kept_well_formed : (here : RegionTree → Option RegionTree) (l : PlainLambda) →
     ((r s : RegionTree) → here r ≡ Some s → every_region (region_fits (length l.objects)) r ≡ true → Numbered l.next (region_ids r) → KeptWithin (length l.objects) r s) →
     IsWellFormed l → IsWellFormed (lambda_changed here l)
@@ -182,12 +182,10 @@ kept_well_formed here l keeps w = by_change (region_changed here l.body) refl
         changed_well_formed_within here l s (record { kept = λ r t q fits numbers. (keeps r t q fits numbers).kept })
         (λ r t q fits numbers. (keeps r t q fits numbers).fewer) e w
 
--- and then a safe change is a step.
-pub kept_changes_are_steps : (here : RegionTree → Option RegionTree) (l : PlainLambda) → IsWellFormed l →
-    ((r s : RegionTree) → here r ≡ Some s → every_region (region_fits (length l.objects)) r ≡ true → Numbered l.next (region_ids r) → KeptWithin (length l.objects) r s) →
-    IsSafeChange here l → (held : List PlainLambda) → MayStandFor held l (lambda_changed here l)
-kept_changes_are_steps here l well keeps safe held =
-    changed_stands_for here l (lambda_changed here l) well (kept_well_formed here l keeps well) (record { number = refl; params = refl; objects = refl; body = refl }) safe held
+-- A safe change is a step where the lambda stays well formed, with the same next number.
+pub changed_is_a_step : (here : RegionTree → Option RegionTree) (l : PlainLambda) → IsWellFormed l → IsWellFormed (lambda_changed here l) → IsSafeChange here l → (held : List PlainLambda) →
+    MayStandFor held l (lambda_changed here l)
+changed_is_a_step here l well stays safe held = changed_stands_for here l (lambda_changed here l) well stays (record { number = refl; params = refl; objects = refl; body = refl }) safe held
 
 pub no_step_is_a_step : NoStepIsAStep
 no_step_is_a_step held l well =

@@ -1,9 +1,8 @@
-use Rattle.std.proofs.Common.{sym, subst}
-use Rattle.g_graph.specs.Plain.{PlainLambda}
-use Rattle.r_edit.specs.Steps.{MayStandFor}
-use Rattle.r_dne.proofs.Dne.{dne_is_a_step}
+use Rattle.r_dne.proofs.Dne.{dne_is_safe, dne_stays}
 use Rattle.r_dne.proofs.rule.apply.Goals as goal
 
-pub returns-clause-step : goal.returns-clause-step
-returns-clause-step c =
-    λ held. subst (λ (l : PlainLambda). MayStandFor held c.args.lambda.now l) (sym c.in_ok-change_lambda.ensures.ok) (dne_is_a_step held c.args.node c.args.lambda.now c.requires.well_formed)
+pub apply-requires-clause-safe : goal.apply-requires-clause-safe
+apply-requires-clause-safe c = dne_is_safe c.args.node c.args.lambda.now
+
+pub apply-requires-clause-stays : goal.apply-requires-clause-stays
+apply-requires-clause-stays c = dne_stays c.args.node c.args.lambda.now c.requires.well_formed
