@@ -1,0 +1,218 @@
+-- Places by need: two names share a place where no instruction writes one of them while the other is needed after it. Places 0 to
+-- 10 are the registers that a call keeps, 11 to 14 registers that it loses, and those from 15 on words of the frame.
+use Rattle.std.specs.Prelude.{ℕ, zero, suc, ◌+◌, ◌-◌, ◌==◌, nat_lt, nat_le, Bool, true, false, not, ◌&&◌, ◌||◌, if◌then◌else◌, List, [], ◌∷◌, ◌++◌, map, filter, max, take, drop, length}
+use Rattle.std.specs.List.{flat_map}
+use Rattle.val_core.specs.Numbers.{numbers_from}
+use Rattle.g_graph.specs.WellFormed.{some_of}
+use Rattle.s_linear.specs.Frame.{PlainPlaces}
+use Rattle.s_linear.specs.Linear.{Instr, store, clear, move, call, put, exit, Step, plain, choice, loop, Code, no_steps, step_then, Codes, no_codes, code_then, LinearFunction}
+use Rattle.s_linear.specs.Lines.{Line, counted, instr_names, lines}
+use Rattle.a_place.specs.Places.{among, occurs, name_count, Given, place_in}
+
+-- ---- what is needed
+
+-- a set of names
+abbrev pub Names : Type 0
+Names = ℕ → Bool
+
+-- `store`, `clear`, `put` and `exit` write no name. Each other instruction writes its first.
+abbrev pub written_by : Instr → List ℕ
+written_by (store width a v) = []
+written_by (clear k) = []
+written_by (put a) = []
+written_by (exit a) = []
+written_by i = take 1 (instr_names i)
+
+abbrev pub writes : Instr → Names
+writes i x = among x (written_by i)
+
+abbrev pub reads : Instr → Names
+reads i x = among x (drop (length (written_by i)) (instr_names i))
+
+abbrev pub needed_by : Instr → Names → Names
+needed_by i N x = reads i x || (not (writes i x) && N x)
+
+abbrev pub needed_by_instrs : List Instr → Names → Names
+needed_by_instrs [] N = N
+needed_by_instrs (i ∷ is) N = needed_by i (needed_by_instrs is N)
+
+-- After a loop's body, but for what the next turn needs: that is among these where the loop reads only what it writes.
+abbrev pub after_body : (predicate : ℕ) → (back : List Instr) → Names → Names
+after_body p back N x = (p == x) || (N x || needed_by_instrs back (λ y. false) x)
+
+abbrev mutual
+  pub needed_by_step : Step → Names → Names
+  needed_by_step (plain i) N x = needed_by i N x
+  needed_by_step (choice p cs) N x = (nat_le 2 (counted cs) && (p == x)) || needed_by_codes cs N x
+  needed_by_step (loop enter body p back) N x = needed_by_instrs enter (needed_by_code body (after_body p back N)) x
+
+  pub needed_by_code : Code → Names → Names
+  needed_by_code no_steps N x = N x
+  needed_by_code (step_then s k) N x = needed_by_step s (needed_by_code k N) x
+
+  pub needed_by_codes : Codes → Names → Names
+  needed_by_codes no_codes N x = false
+  needed_by_codes (code_then k ks) N x = needed_by_code k N x || needed_by_codes ks N x
+
+abbrev pub at_label : (body : Code) → (predicate : ℕ) → (back : List Instr) → Names → Names
+at_label body p back N = needed_by_code body (after_body p back N)
+
+abbrev pub at_branch : (body : Code) → (predicate : ℕ) → (back : List Instr) → Names → Names
+at_branch body p back N x = (p == x) || (N x || needed_by_instrs back (at_label body p back N) x)
+
+-- ---- where names stand
+
+-- An instruction or a predicate, the loops in whose body, predicate or moves back it stands, and what is needed after it.
+pub data Site : Type 0 where
+  does : (depth : ℕ) → Instr → (after : Names) → Site
+  tests : (depth predicate : ℕ) → Site
+
+abbrev pub instr_sites : (depth : ℕ) → List Instr → Names → List Site
+instr_sites d [] N = []
+instr_sites d (i ∷ is) N = does d i (needed_by_instrs is N) ∷ instr_sites d is N
+
+-- the sites of the codes of a choice in the order in which their lines stand: of two as they are, of another number the last first
+abbrev pub last_first : List Site → List (List Site) → List Site
+last_first before [] = before
+last_first before (k ∷ []) = k ++ before
+last_first before (k ∷ l ∷ ks) = last_first (before ++ k) (l ∷ ks)
+
+abbrev pub as_they_stand : List (List Site) → List Site
+as_they_stand (k ∷ l ∷ []) = k ++ l
+as_they_stand ks = last_first [] ks
+
+abbrev pub predicate_sites : (depth predicate : ℕ) → Codes → List Site
+predicate_sites d p cs = if nat_le 2 (counted cs) then tests d p ∷ [] else []
+
+abbrev mutual
+  pub step_sites : (depth : ℕ) → Step → Names → List Site
+  step_sites d (plain i) N = does d i N ∷ []
+  step_sites d (choice p cs) N = predicate_sites d p cs ++ as_they_stand (codes_sites d cs N)
+  step_sites d (loop enter body p back) N =
+      instr_sites d enter (at_label body p back N) ++ code_sites (suc d) body (at_branch body p back N)
+      ++ tests (suc d) p ∷ instr_sites (suc d) back (at_label body p back N)
+
+  pub code_sites : (depth : ℕ) → Code → Names → List Site
+  code_sites d no_steps N = []
+  code_sites d (step_then s k) N = step_sites d s (needed_by_code k N) ++ code_sites d k N
+
+  pub codes_sites : (depth : ℕ) → Codes → Names → List (List Site)
+  codes_sites d no_codes N = []
+  codes_sites d (code_then k ks) N = code_sites d k N ∷ codes_sites d ks N
+
+-- the sites of a function, after which its value is needed
+abbrev pub sites : LinearFunction → List Site
+sites f = code_sites 0 f.code (λ x. f.value == x)
+
+-- ---- names that clash, and long names
+
+-- A name is needed after an instruction, which does not write it and does not move it.
+abbrev pub meets : Instr → (after : Names) → Names
+meets (move t a) N x = N x && not (t == x) && not (a == x)
+meets i N x = N x && not (writes i x)
+
+abbrev pub clash_at : (x y : ℕ) → Site → Bool
+clash_at x y (does d i N) = (writes i x && meets i N y) || (writes i y && meets i N x)
+clash_at x y (tests d p) = false
+
+-- An instruction writes one of two names and meets the other, or both are parameters.
+abbrev pub clash : (params : ℕ) → List Site → (x y : ℕ) → Bool
+clash params ss x y = (nat_lt x params && nat_lt y params) || some_of (clash_at x y) ss
+
+abbrev pub is_long_at : (name : ℕ) → Site → Bool
+is_long_at x (does d (call g t xs) N) = N x && not (t == x)
+is_long_at x s = false
+
+-- A name is needed after a call that does not write it.
+abbrev pub is_long : List Site → (name : ℕ) → Bool
+is_long ss x = some_of (is_long_at x) ss
+
+-- ---- depths and partners
+
+abbrev pub greatest : List ℕ → ℕ
+greatest [] = 0
+greatest (n ∷ ns) = max n (greatest ns)
+
+abbrev pub depth_of_site : Site → ℕ
+depth_of_site (does d i N) = d
+depth_of_site (tests d p) = d
+
+abbrev pub stands_at : (name : ℕ) → Site → Bool
+stands_at x (does d i N) = among x (instr_names i)
+stands_at x (tests d p) = p == x
+
+-- the greatest depth at which a name stands
+abbrev pub depth_of : List Site → (name : ℕ) → ℕ
+depth_of ss x = greatest (map depth_of_site (filter (stands_at x) ss))
+
+-- the depths from the greatest down to 0
+abbrev pub down_from : ℕ → List ℕ
+down_from zero = zero ∷ []
+down_from (suc n) = suc n ∷ down_from n
+
+abbrev pub depths : List Site → List ℕ
+depths ss = down_from (greatest (map depth_of_site ss))
+
+-- the other name of a move from or to a name at a depth
+abbrev pub partners_at : (name depth : ℕ) → Site → List ℕ
+partners_at x d (does e (move t a) N) = if e == d then (if t == x then a ∷ [] else []) ++ (if a == x then t ∷ [] else []) else []
+partners_at x d s = []
+
+-- in order of depth, the greatest first, then of lines
+abbrev pub partners : List Site → (name : ℕ) → List ℕ
+partners ss x = flat_map (λ d. flat_map (partners_at x d) ss) (depths ss)
+
+-- ---- places
+
+abbrev pub is_lost : (place : ℕ) → Bool
+is_lost p = nat_le 11 p && nat_lt p 15
+
+-- No name before has the place and clashes with x, and a long name does not get a place that calls lose.
+abbrev pub fits : (params : ℕ) → List Site → (earlier : List Given) → (x place : ℕ) → Bool
+fits params ss gs x p = not (is_long ss x && is_lost p) && not (some_of (λ g. (g.place == p) && clash params ss x g.name) gs)
+
+abbrev pub places_of : List Given → (name : ℕ) → List ℕ
+places_of gs x = map (λ g. g.place) (filter (λ g. g.name == x) gs)
+
+-- The places of partners come first, then the registers that a call loses, those that it keeps, and 16 words.
+abbrev pub candidates : List Site → (earlier : List Given) → (x : ℕ) → List ℕ
+candidates ss gs x =
+    filter (λ p. nat_lt p 31) (flat_map (places_of gs) (partners ss x)) ++ numbers_from 11 4 ++ numbers_from 0 11 ++ numbers_from 15 16
+
+abbrev pub first_of : (test : ℕ → Bool) → List ℕ → (otherwise : ℕ) → ℕ
+first_of test [] n = n
+first_of test (p ∷ ps) n = if test p then p else first_of test ps n
+
+-- the next place from 31 on
+abbrev pub next_place : List Given → ℕ
+next_place [] = 31
+next_place (g ∷ gs) = max (suc g.place) (next_place gs)
+
+abbrev pub place_for : (params : ℕ) → List Site → (earlier : List Given) → (x : ℕ) → ℕ
+place_for params ss gs x = first_of (fits params ss gs x) (candidates ss gs x) (next_place gs)
+
+-- the places of names in their order, after those given earlier; the latest first
+abbrev pub given : (params : ℕ) → List Site → (names : List ℕ) → (earlier : List Given) → List Given
+given params ss [] gs = gs
+given params ss (x ∷ xs) gs = given params ss xs (record { name = x; place = place_for params ss gs x } ∷ gs)
+
+-- the names of these lines, in order of depth, the greatest first, then of number
+abbrev pub in_order : List Site → List Line → List ℕ
+in_order ss ls = flat_map (λ d. filter (λ x. some_of (occurs x) ls && (depth_of ss x == d)) (numbers_from 0 (name_count ls))) (depths ss)
+
+abbrev pub all_given : (params : ℕ) → List Site → List Line → List Given
+all_given params ss ls = given params ss (in_order ss ls) []
+
+-- how many saved registers and words there have to be for a place: all registers are saved where there is a word
+abbrev pub counted_for : (place : ℕ) → ℕ
+counted_for p = if nat_lt p 11 then suc p else if nat_lt p 15 then 0 else p - 3
+
+abbrev pub count_of : List Given → ℕ
+count_of gs = greatest (map (λ g. counted_for g.place) gs)
+
+-- the place of each name, which is 0 for a name that does not occur, and how many saved registers and words there are
+abbrev pub shared_of : List Line → List Given → PlainPlaces
+shared_of ls gs = record { of = map (place_in gs) (numbers_from 0 (name_count ls)); count = count_of gs }
+
+abbrev pub shared : LinearFunction → PlainPlaces
+shared f = shared_of (lines f) (all_given f.params (sites f) (lines f))

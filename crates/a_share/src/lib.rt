@@ -1,0 +1,2 @@
+//! Places by need: which register or word of the frame holds each name.
+#![tactic(auto)]
