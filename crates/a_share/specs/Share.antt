@@ -1,13 +1,13 @@
 -- Places by need: two names share a place where no instruction writes one of them while the other is needed after it. Places 0 to
 -- 10 are the registers that a call keeps, 11 to 14 registers that it loses, and those from 15 on words of the frame.
-use Rattle.std.specs.Prelude.{ℕ, zero, suc, ◌+◌, ◌-◌, ◌==◌, nat_lt, nat_le, Bool, true, false, not, ◌&&◌, ◌||◌, if◌then◌else◌, List, [], ◌∷◌, ◌++◌, map, filter, max, take, drop, length}
+use Rattle.std.specs.Prelude.{ℕ, zero, suc, ◌-◌, ◌==◌, nat_lt, nat_le, Bool, true, false, not, ◌&&◌, ◌||◌, if◌then◌else◌, List, [], ◌∷◌, ◌++◌, map, filter, max, take, drop}
 use Rattle.std.specs.List.{flat_map}
 use Rattle.val_core.specs.Numbers.{numbers_from}
 use Rattle.g_graph.specs.WellFormed.{some_of}
 use Rattle.s_linear.specs.Frame.{PlainPlaces}
 use Rattle.s_linear.specs.Linear.{Instr, store, clear, move, call, put, exit, Step, plain, choice, loop, Code, no_steps, step_then, Codes, no_codes, code_then, LinearFunction}
-use Rattle.s_linear.specs.Lines.{Line, counted, instr_names, lines}
-use Rattle.a_place.specs.Places.{among, occurs, name_count, Given, place_in}
+use Rattle.s_linear.specs.Lines.{counted, instr_names}
+use Rattle.a_place.specs.Places.{among, above, Given, place_in}
 
 -- ---- what is needed
 
@@ -15,19 +15,19 @@ use Rattle.a_place.specs.Places.{among, occurs, name_count, Given, place_in}
 abbrev pub Names : Type 0
 Names = ℕ → Bool
 
--- `store`, `clear`, `put` and `exit` write no name. Each other instruction writes its first.
-abbrev pub written_by : Instr → List ℕ
-written_by (store width a v) = []
-written_by (clear k) = []
-written_by (put a) = []
-written_by (exit a) = []
-written_by i = take 1 (instr_names i)
+-- How many of its names an instruction writes: they come first. `store`, `clear`, `put` and `exit` write none, and each other writes one.
+abbrev pub targets : Instr → ℕ
+targets (store width a v) = 0
+targets (clear k) = 0
+targets (put a) = 0
+targets (exit a) = 0
+targets i = 1
 
 abbrev pub writes : Instr → Names
-writes i x = among x (written_by i)
+writes i x = among x (take (targets i) (instr_names i))
 
 abbrev pub reads : Instr → Names
-reads i x = among x (drop (length (written_by i)) (instr_names i))
+reads i x = among x (drop (targets i) (instr_names i))
 
 abbrev pub needed_by : Instr → Names → Names
 needed_by i N x = reads i x || (not (writes i x) && N x)
@@ -59,6 +59,30 @@ at_label body p back N = needed_by_code body (after_body p back N)
 
 abbrev pub at_branch : (body : Code) → (predicate : ℕ) → (back : List Instr) → Names → Names
 at_branch body p back N x = (p == x) || (N x || needed_by_instrs back (at_label body p back N) x)
+
+-- ---- the names of a function
+
+-- A choice of one code reads no predicate.
+abbrev pub predicate_names : (predicate : ℕ) → Codes → List ℕ
+predicate_names p cs = if nat_le 2 (counted cs) then p ∷ [] else []
+
+abbrev mutual
+  pub step_names : Step → List ℕ
+  step_names (plain i) = instr_names i
+  step_names (choice p cs) = predicate_names p cs ++ codes_names cs
+  step_names (loop enter body p back) = flat_map instr_names enter ++ code_names body ++ p ∷ flat_map instr_names back
+
+  pub code_names : Code → List ℕ
+  code_names no_steps = []
+  code_names (step_then s k) = step_names s ++ code_names k
+
+  pub codes_names : Codes → List ℕ
+  codes_names no_codes = []
+  codes_names (code_then k ks) = code_names k ++ codes_names ks
+
+-- its parameters, its value, and those of its code
+abbrev pub all_names : LinearFunction → List ℕ
+all_names f = numbers_from 0 f.params ++ f.value ∷ code_names f.code
 
 -- ---- where names stand
 
@@ -106,10 +130,13 @@ sites f = code_sites 0 f.code (λ x. f.value == x)
 
 -- ---- names that clash, and long names
 
+abbrev pub moves_from : Instr → Names
+moves_from (move t a) x = a == x
+moves_from i x = false
+
 -- A name is needed after an instruction, which does not write it and does not move it.
 abbrev pub meets : Instr → (after : Names) → Names
-meets (move t a) N x = N x && not (t == x) && not (a == x)
-meets i N x = N x && not (writes i x)
+meets i N x = N x && (not (writes i x) && not (moves_from i x))
 
 abbrev pub clash_at : (x y : ℕ) → Site → Bool
 clash_at x y (does d i N) = (writes i x && meets i N y) || (writes i y && meets i N x)
@@ -119,9 +146,13 @@ clash_at x y (tests d p) = false
 abbrev pub clash : (params : ℕ) → List Site → (x y : ℕ) → Bool
 clash params ss x y = (nat_lt x params && nat_lt y params) || some_of (clash_at x y) ss
 
+abbrev pub is_call : Instr → Bool
+is_call (call g t xs) = true
+is_call i = false
+
 abbrev pub is_long_at : (name : ℕ) → Site → Bool
-is_long_at x (does d (call g t xs) N) = N x && not (t == x)
-is_long_at x s = false
+is_long_at x (does d i N) = is_call i && (N x && not (writes i x))
+is_long_at x (tests d p) = false
 
 -- A name is needed after a call that does not write it.
 abbrev pub is_long : List Site → (name : ℕ) → Bool
@@ -164,19 +195,24 @@ partners ss x = flat_map (λ d. flat_map (partners_at x d) ss) (depths ss)
 
 -- ---- places
 
+-- a call loses what the register holds
 abbrev pub is_lost : (place : ℕ) → Bool
 is_lost p = nat_le 11 p && nat_lt p 15
 
--- No name before has the place and clashes with x, and a long name does not get a place that calls lose.
-abbrev pub fits : (params : ℕ) → List Site → (earlier : List Given) → (x place : ℕ) → Bool
-fits params ss gs x p = not (is_long ss x && is_lost p) && not (some_of (λ g. (g.place == p) && clash params ss x g.name) gs)
+-- a name before has the place and clashes with x
+abbrev pub held : (params : ℕ) → List Site → (x : ℕ) → (earlier : List Given) → (place : ℕ) → Bool
+held params ss x gs p = some_of (λ g. (g.place == p) && clash params ss g.name x) gs
+
+-- A long name does not get a place that calls lose.
+abbrev pub fits : (params : ℕ) → List Site → (x : ℕ) → (earlier : List Given) → (place : ℕ) → Bool
+fits params ss x gs p = not (is_long ss x && is_lost p) && not (held params ss x gs p)
 
 abbrev pub places_of : List Given → (name : ℕ) → List ℕ
 places_of gs x = map (λ g. g.place) (filter (λ g. g.name == x) gs)
 
 -- The places of partners come first, then the registers that a call loses, those that it keeps, and 16 words.
-abbrev pub candidates : List Site → (earlier : List Given) → (x : ℕ) → List ℕ
-candidates ss gs x =
+abbrev pub candidates : List Site → (x : ℕ) → (earlier : List Given) → List ℕ
+candidates ss x gs =
     filter (λ p. nat_lt p 31) (flat_map (places_of gs) (partners ss x)) ++ numbers_from 11 4 ++ numbers_from 0 11 ++ numbers_from 15 16
 
 abbrev pub first_of : (test : ℕ → Bool) → List ℕ → (otherwise : ℕ) → ℕ
@@ -188,31 +224,32 @@ abbrev pub next_place : List Given → ℕ
 next_place [] = 31
 next_place (g ∷ gs) = max (suc g.place) (next_place gs)
 
-abbrev pub place_for : (params : ℕ) → List Site → (earlier : List Given) → (x : ℕ) → ℕ
-place_for params ss gs x = first_of (fits params ss gs x) (candidates ss gs x) (next_place gs)
+abbrev pub place_for : (params : ℕ) → List Site → (x : ℕ) → (earlier : List Given) → ℕ
+place_for params ss x gs = first_of (fits params ss x gs) (candidates ss x gs) (next_place gs)
 
 -- the places of names in their order, after those given earlier; the latest first
 abbrev pub given : (params : ℕ) → List Site → (names : List ℕ) → (earlier : List Given) → List Given
 given params ss [] gs = gs
-given params ss (x ∷ xs) gs = given params ss xs (record { name = x; place = place_for params ss gs x } ∷ gs)
+given params ss (x ∷ xs) gs = given params ss xs (record { name = x; place = place_for params ss x gs } ∷ gs)
 
--- the names of these lines, in order of depth, the greatest first, then of number
-abbrev pub in_order : List Site → List Line → List ℕ
-in_order ss ls = flat_map (λ d. filter (λ x. some_of (occurs x) ls && (depth_of ss x == d)) (numbers_from 0 (name_count ls))) (depths ss)
+-- these names, each once, in order of depth, the greatest first, then of number
+abbrev pub in_order : List Site → List ℕ → List ℕ
+in_order ss names = flat_map (λ d. filter (λ x. among x names && (depth_of ss x == d)) (numbers_from 0 (above names))) (depths ss)
 
-abbrev pub all_given : (params : ℕ) → List Site → List Line → List Given
-all_given params ss ls = given params ss (in_order ss ls) []
+abbrev pub all_given : (params : ℕ) → List Site → (names : List ℕ) → List Given
+all_given params ss names = given params ss (in_order ss names) []
 
 -- how many saved registers and words there have to be for a place: all registers are saved where there is a word
 abbrev pub counted_for : (place : ℕ) → ℕ
 counted_for p = if nat_lt p 11 then suc p else if nat_lt p 15 then 0 else p - 3
 
 abbrev pub count_of : List Given → ℕ
-count_of gs = greatest (map (λ g. counted_for g.place) gs)
+count_of [] = 0
+count_of (g ∷ gs) = max (counted_for g.place) (count_of gs)
 
 -- the place of each name, which is 0 for a name that does not occur, and how many saved registers and words there are
-abbrev pub shared_of : List Line → List Given → PlainPlaces
-shared_of ls gs = record { of = map (place_in gs) (numbers_from 0 (name_count ls)); count = count_of gs }
+abbrev pub shared_of : (names : List ℕ) → List Given → PlainPlaces
+shared_of names gs = record { of = map (place_in gs) (numbers_from 0 (above names)); count = count_of gs }
 
 abbrev pub shared : LinearFunction → PlainPlaces
-shared f = shared_of (lines f) (all_given f.params (sites f) (lines f))
+shared f = shared_of (all_names f) (all_given f.params (sites f) (all_names f))

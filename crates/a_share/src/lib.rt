@@ -8,6 +8,7 @@ mod counts;
 mod facts;
 mod giving;
 mod held;
+pub mod laws;
 mod reading;
 mod sharing;
 mod walk;

@@ -104,6 +104,7 @@ impl Walk {
 
     // Walks the code that ends before a position, which a label or a jump to `stop` begins, and gives
     // where it begins.
+    #[cycle(steps)]
     fn code(
         &mut self,
         lines: &[Line],
@@ -164,6 +165,7 @@ impl Walk {
     // ---- choices
 
     // Walks the choice whose end label stands at a position, and gives where it begins.
+    #[cycle(steps)]
     fn choice(
         &mut self,
         lines: &[Line],
@@ -270,6 +272,7 @@ impl Walk {
 
     // Walks the loop whose end label stands at a position and whose label is `label`, but for its moves
     // in, and gives where it begins.
+    #[cycle(steps)]
     fn turn(
         &mut self,
         lines: &[Line],

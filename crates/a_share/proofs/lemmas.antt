@@ -1,0 +1,5 @@
+-- Lemmas that crates above cite.
+pub mod Order
+pub mod Apart
+pub mod Named
+pub mod Safe

@@ -1,0 +1,19 @@
+//! Laws of shared places, for the proofs of the crates above: each is the contract of a function
+//! that does nothing.
+
+ghost use Rattle.a_share.specs.Laws.{SharedParamsDiffer, SharedPlacesAreCounted, SharedSitesAreSafe};
+
+/// Shared places are safe at each instruction.
+pub fn shared_sites_are_safe()
+    ensures { SharedSitesAreSafe }
+{}
+
+/// Parameters have different places.
+pub fn shared_params_differ()
+    ensures { SharedParamsDiffer }
+{}
+
+/// The saved registers and words are enough for the place of each name.
+pub fn shared_places_are_counted()
+    ensures { SharedPlacesAreCounted }
+{}
