@@ -3,3 +3,4 @@ pub mod Order
 pub mod Apart
 pub mod Named
 pub mod Safe
+pub mod Marked

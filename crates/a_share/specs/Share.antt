@@ -1,6 +1,6 @@
 -- Places by need: two names share a place where no instruction writes one of them while the other is needed after it. Places 0 to
 -- 10 are the registers that a call keeps, 11 to 14 registers that it loses, and those from 15 on words of the frame.
-use Rattle.std.specs.Prelude.{ℕ, zero, suc, ◌-◌, ◌==◌, nat_lt, nat_le, Bool, true, false, not, ◌&&◌, ◌||◌, if◌then◌else◌, List, [], ◌∷◌, ◌++◌, map, filter, max, take, drop}
+use Rattle.std.specs.Prelude.{ℕ, zero, suc, ◌-◌, ◌==◌, nat_lt, nat_le, Bool, true, false, not, ◌&&◌, ◌||◌, if◌then◌else◌, List, [], ◌∷◌, ◌++◌, map, filter, max, replicate, take, drop}
 use Rattle.std.specs.List.{flat_map}
 use Rattle.val_core.specs.Numbers.{numbers_from}
 use Rattle.g_graph.specs.WellFormed.{some_of}
@@ -95,23 +95,29 @@ abbrev pub instr_sites : (depth : ℕ) → List Instr → Names → List Site
 instr_sites d [] N = []
 instr_sites d (i ∷ is) N = does d i (needed_by_instrs is N) ∷ instr_sites d is N
 
--- the sites of the codes of a choice in the order in which their lines stand: of two as they are, of another number the last first
-abbrev pub last_first : List Site → List (List Site) → List Site
-last_first before [] = before
-last_first before (k ∷ []) = k ++ before
-last_first before (k ∷ l ∷ ks) = last_first (before ++ k) (l ∷ ks)
+abbrev pub last_of : {X : Type 0} → List (List X) → List X
+last_of [] = []
+last_of (k ∷ []) = k
+last_of (k ∷ l ∷ ks) = last_of (l ∷ ks)
 
+abbrev pub others_of : List (List Site) → List Site
+others_of [] = []
+others_of (k ∷ []) = []
+others_of (k ∷ l ∷ ks) = k ++ others_of (l ∷ ks)
+
+-- The codes of a choice in the order in which their lines stand: of two the first stands first, of another number the last.
 abbrev pub as_they_stand : List (List Site) → List Site
 as_they_stand (k ∷ l ∷ []) = k ++ l
-as_they_stand ks = last_first [] ks
+as_they_stand ks = last_of ks ++ others_of ks
 
-abbrev pub predicate_sites : (depth predicate : ℕ) → Codes → List Site
-predicate_sites d p cs = if nat_le 2 (counted cs) then tests d p ∷ [] else []
+-- the branches of a choice, one for each code but the last
+abbrev pub branch_sites : (depth predicate : ℕ) → Codes → List Site
+branch_sites d p cs = replicate (counted cs - 1) (tests d p)
 
 abbrev mutual
   pub step_sites : (depth : ℕ) → Step → Names → List Site
   step_sites d (plain i) N = does d i N ∷ []
-  step_sites d (choice p cs) N = predicate_sites d p cs ++ as_they_stand (codes_sites d cs N)
+  step_sites d (choice p cs) N = branch_sites d p cs ++ as_they_stand (codes_sites d cs N)
   step_sites d (loop enter body p back) N =
       instr_sites d enter (at_label body p back N) ++ code_sites (suc d) body (at_branch body p back N)
       ++ tests (suc d) p ∷ instr_sites (suc d) back (at_label body p back N)

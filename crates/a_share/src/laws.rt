@@ -1,6 +1,7 @@
 //! Laws of shared places, for the proofs of the crates above: each is the contract of a function
 //! that does nothing.
 
+ghost use Rattle.a_share.specs.Marks.{SitesStandAtLines};
 ghost use Rattle.a_share.specs.Laws.{SharedParamsDiffer, SharedPlacesAreCounted, SharedSitesAreSafe};
 
 /// Shared places are safe at each instruction.
@@ -16,4 +17,9 @@ pub fn shared_params_differ()
 /// The saved registers and words are enough for the place of each name.
 pub fn shared_places_are_counted()
     ensures { SharedPlacesAreCounted }
+{}
+
+/// The sites of a function are those of its lines, in their order.
+pub fn sites_stand_at_lines()
+    ensures { SitesStandAtLines }
 {}

@@ -1,11 +1,11 @@
 -- What is needed in a code, and what it writes, are names of the code, but for what is needed after it.
 use Rattle.std.proofs.Common.{◌≡◌, ℕ, zero, suc, Bool, true, false, not, ◌&&◌, List, [], ◌∷◌, ◌++◌, take, drop, flat_map, inl, inr, eqb-true, ap, sym, ◌∙◌}
-use Rattle.std.specs.Prelude.{◌==◌, ◌||◌, nat_le, if◌then◌else◌}
+use Rattle.std.specs.Prelude.{◌==◌, ◌||◌, ◌-◌, nat_le, replicate, if◌then◌else◌}
 use Rattle.std.proofs.lemmas.Bool.{or_cases, and_parts, cases_Bool, or_left, or_right}
 use Rattle.s_linear.specs.Linear.{Instr, Step, plain, choice, loop, Code, no_steps, step_then, Codes, no_codes, code_then}
 use Rattle.s_linear.specs.Lines.{counted, instr_names}
 use Rattle.a_place.specs.Places.{among}
-use Rattle.a_share.specs.Share.{Names, targets, writes, reads, needed_by, needed_by_instrs, after_body, needed_by_step, needed_by_code, needed_by_codes, at_label, at_branch, predicate_names, step_names, code_names, codes_names, Site, does, tests, instr_sites, last_first, as_they_stand, predicate_sites, step_sites, code_sites, codes_sites}
+use Rattle.a_share.specs.Share.{Names, targets, writes, reads, needed_by, needed_by_instrs, after_body, needed_by_step, needed_by_code, needed_by_codes, at_label, at_branch, predicate_names, step_names, code_names, codes_names, Site, does, tests, instr_sites, last_of, others_of, as_they_stand, branch_sites, step_sites, code_sites, codes_sites}
 use Rattle.a_share.proofs.lemmas.Order.{among_left, among_right}
 
 -- ---- sets of names within a list
@@ -83,9 +83,6 @@ need_predicate p cs names h x e =
     let parts = and_parts (nat_le 2 (counted cs)) (p == x) e in
     h x (rw parts.0 (or_left (p == x) (among x []) parts.1))
 
-abbrev loop_names : (enter : List Instr) (body : Code) (predicate : ℕ) (back : List Instr) → List ℕ
-loop_names enter body p back = code_names body ++ p ∷ flat_map instr_names back
-
 mutual
   pub need_step : (s : Step) (N : Names) (names : List ℕ) → AreWithin (step_names s) names → IsWithin N names → IsWithin (needed_by_step s N) names
   need_step (plain i) N names h n x e = need_instr i N names h n x e
@@ -95,12 +92,11 @@ mutual
         | inr there ↦ need_codes cs N names (within_right (predicate_names p cs) (codes_names cs) names h) n x there
       ]
   need_step (loop enter body p back) N names h n x e =
-      let rest = within_right (flat_map instr_names enter) (code_names body ++ p ∷ flat_map instr_names back) names h in
-      let last = within_right (code_names body) (p ∷ flat_map instr_names back) names rest in
-      need_instrs enter (at_label body p back N) names
-      (within_left (flat_map instr_names enter) (code_names body ++ p ∷ flat_map instr_names back) names h)
+      let first = within_left (flat_map instr_names enter ++ code_names body) (p ∷ flat_map instr_names back) names h in
+      let last = within_right (flat_map instr_names enter ++ code_names body) (p ∷ flat_map instr_names back) names h in
+      need_instrs enter (at_label body p back N) names (within_left (flat_map instr_names enter) (code_names body) names first)
       (λ y l.
-      need_code body (after_body p back N) names (within_left (code_names body) (p ∷ flat_map instr_names back) names rest)
+      need_code body (after_body p back N) names (within_right (flat_map instr_names enter) (code_names body) names first)
       (need_branch p back N (λ z. false) names last n (none_within names)) y l) x e
 
   pub need_code : (c : Code) (N : Names) (names : List ℕ) → AreWithin (code_names c) names → IsWithin N names → IsWithin (needed_by_code c N) names
@@ -136,25 +132,28 @@ named_append : (names : List ℕ) (ss ts : List Site) → AreNamed names ss → 
 named_append names [] ts a b = b
 named_append names (s ∷ ss) ts a b = (a.0, named_append names ss ts a.1 b)
 
-named_last_first : (names : List ℕ) (before : List Site) (ks : List (List Site)) → AreNamed names before → EachIsNamed names ks
-    → AreNamed names (last_first before ks)
-named_last_first names before [] a b = a
-named_last_first names before (k ∷ []) a b = named_append names k before b.0 a
-named_last_first names before (k ∷ l ∷ ks) a b =
-    named_last_first names (before ++ k) (l ∷ ks) (named_append names before k a b.0) b.1
+named_last : (names : List ℕ) (ks : List (List Site)) → EachIsNamed names ks → AreNamed names (last_of ks)
+named_last names [] b = unit
+named_last names (k ∷ []) b = b.0
+named_last names (k ∷ l ∷ ks) b = named_last names (l ∷ ks) b.1
+
+named_others : (names : List ℕ) (ks : List (List Site)) → EachIsNamed names ks → AreNamed names (others_of ks)
+named_others names [] b = unit
+named_others names (k ∷ []) b = unit
+named_others names (k ∷ l ∷ ks) b = named_append names k (others_of (l ∷ ks)) b.0 (named_others names (l ∷ ks) b.1)
 
 named_as_they_stand : (names : List ℕ) (ks : List (List Site)) → EachIsNamed names ks → AreNamed names (as_they_stand ks)
 named_as_they_stand names [] b = unit
-named_as_they_stand names (k ∷ []) b = named_last_first names [] (k ∷ []) unit b
+named_as_they_stand names (k ∷ []) b =
+    named_append names (last_of (k ∷ [])) (others_of (k ∷ [])) (named_last names (k ∷ []) b) (named_others names (k ∷ []) b)
 named_as_they_stand names (k ∷ l ∷ []) b = named_append names k l b.0 b.1.0
-named_as_they_stand names (k ∷ l ∷ m ∷ ks) b = named_last_first names [] (k ∷ l ∷ m ∷ ks) unit b
+named_as_they_stand names (k ∷ l ∷ m ∷ ks) b =
+    named_append names (last_of (k ∷ l ∷ m ∷ ks)) (others_of (k ∷ l ∷ m ∷ ks)) (named_last names (k ∷ l ∷ m ∷ ks) b)
+    (named_others names (k ∷ l ∷ m ∷ ks) b)
 
-named_predicate : (names : List ℕ) (d p : ℕ) (cs : Codes) → AreNamed names (predicate_sites d p cs)
-named_predicate names d p cs =
-    elim (cases_Bool (nat_le 2 (counted cs))) [
-      | inl many ↦ rw many (unit, unit)
-      | inr few ↦ rw few unit
-    ]
+named_tests : (names : List ℕ) (d p n : ℕ) → AreNamed names (replicate n (tests d p))
+named_tests names d p zero = unit
+named_tests names d p (suc n) = (unit, named_tests names d p n)
 
 named_instrs : (names : List ℕ) (d : ℕ) (is : List Instr) (N : Names) → AreWithin (flat_map instr_names is) names → IsWithin N names
     → AreNamed names (instr_sites d is N)
@@ -168,22 +167,21 @@ mutual
   named_step : (names : List ℕ) (d : ℕ) (s : Step) (N : Names) → AreWithin (step_names s) names → IsWithin N names → AreNamed names (step_sites d s N)
   named_step names d (plain i) N h n = ((writes_within i names h, n), unit)
   named_step names d (choice p cs) N h n =
-      named_append names (predicate_sites d p cs) (as_they_stand (codes_sites d cs N)) (named_predicate names d p cs)
+      named_append names (branch_sites d p cs) (as_they_stand (codes_sites d cs N)) (named_tests names d p (counted cs - 1))
       (named_as_they_stand names (codes_sites d cs N)
       (named_codes names d cs N (within_right (predicate_names p cs) (codes_names cs) names h) n))
   named_step names d (loop enter body p back) N h n =
-      let rest = within_right (flat_map instr_names enter) (code_names body ++ p ∷ flat_map instr_names back) names h in
-      let last = within_right (code_names body) (p ∷ flat_map instr_names back) names rest in
-      let inner = within_left (code_names body) (p ∷ flat_map instr_names back) names rest in
+      let first = within_left (flat_map instr_names enter ++ code_names body) (p ∷ flat_map instr_names back) names h in
+      let last = within_right (flat_map instr_names enter ++ code_names body) (p ∷ flat_map instr_names back) names h in
+      let inner = within_right (flat_map instr_names enter) (code_names body) names first in
       let label : IsWithin (at_label body p back N) names =
       λ y l. need_code body (after_body p back N) names inner (need_branch p back N (λ z. false) names last n (none_within names)) y l in
-      named_append names (instr_sites d enter (at_label body p back N))
-      (code_sites (suc d) body (at_branch body p back N) ++ tests (suc d) p ∷ instr_sites (suc d) back (at_label body p back N))
-      (named_instrs names d enter (at_label body p back N)
-      (within_left (flat_map instr_names enter) (code_names body ++ p ∷ flat_map instr_names back) names h) label)
-      (named_append names (code_sites (suc d) body (at_branch body p back N)) (tests (suc d) p ∷ instr_sites (suc d) back (at_label body p back N))
-      (named_code names (suc d) body (at_branch body p back N) inner (need_branch p back N (at_label body p back N) names last n label))
-      (unit, named_instrs names (suc d) back (at_label body p back N) (within_tail p (flat_map instr_names back) names last) label))
+      named_append names (instr_sites d enter (at_label body p back N) ++ code_sites (suc d) body (at_branch body p back N))
+      (tests (suc d) p ∷ instr_sites (suc d) back (at_label body p back N))
+      (named_append names (instr_sites d enter (at_label body p back N)) (code_sites (suc d) body (at_branch body p back N))
+      (named_instrs names d enter (at_label body p back N) (within_left (flat_map instr_names enter) (code_names body) names first) label)
+      (named_code names (suc d) body (at_branch body p back N) inner (need_branch p back N (at_label body p back N) names last n label)))
+      (unit, named_instrs names (suc d) back (at_label body p back N) (within_tail p (flat_map instr_names back) names last) label)
 
   pub named_code : (names : List ℕ) (d : ℕ) (c : Code) (N : Names) → AreWithin (code_names c) names → IsWithin N names → AreNamed names (code_sites d c N)
   named_code names d no_steps N h n = unit
