@@ -1,6 +1,6 @@
 //! The walk back over the lines: after which positions each name is needed.
 
-use crate::reading::{predicate_of, push_sources, target_of};
+use crate::reading::{predicate_of, push_sources, read_names, target_of};
 use no_memory::NoMemory;
 use s_linear::{Instr, Line};
 use std::alloc::{AllocError, Global};
@@ -154,12 +154,18 @@ impl Walk {
         if let Some(target) = target_of(instr) {
             self.begin(target, position)?;
         }
-        self.names.clear();
-        push_sources(&mut self.names, instr)?;
+        self.read(instr)?;
         for k in 0..self.names.len() {
-            self.need(self.names[k], position.saturating_sub(1))?;
+            let name = self.names[k];
+            self.need(name, position.saturating_sub(1))?;
         }
         Ok(())
+    }
+
+    // Reads what an instruction reads in place of the names before.
+    fn read(&mut self, instr: &Instr) -> Result<(), AllocError> {
+        self.names.clear();
+        push_sources(&mut self.names, instr)
     }
 
     // ---- choices
@@ -270,8 +276,8 @@ impl Walk {
 
     // ---- loops
 
-    // Walks the loop whose end label stands at a position and whose label is `label`, but for its moves
-    // in, and gives where it begins.
+    // Walks the loop whose end label stands at a position and whose label is `label`, but for its
+    // moves in, and gives where it begins.
     #[cycle(steps)]
     fn turn(
         &mut self,
@@ -282,7 +288,10 @@ impl Walk {
     ) -> Result<usize, AllocError> {
         let back = start_of_moves(lines, end - 1);
         let branch = back.saturating_sub(1);
-        self.cut(lines, back, end)?;
+        let moves = &lines[back..end - 1];
+        self.cut(moves, branch, end)?;
+        self.read_first(moves, branch)?;
+        self.forget_written(moves);
         self.depths[branch] = depth + 1;
         if let Some(predicate) = predicate_of(&lines[branch]) {
             self.need(predicate, branch)?;
@@ -290,47 +299,25 @@ impl Walk {
         let mark = self.changed.len();
         let start = self.code(lines, branch, Some(label), depth + 1)?;
         self.split(mark, branch, end)?;
-        self.moves_back(lines, back, end, depth + 1)?;
+        self.enter_moves(moves, end - 1)?;
+        self.moves_back(moves, back, depth + 1)?;
+        self.leave_moves(moves, back)?;
         Ok(start.saturating_sub(1))
     }
 
-    // Each name of the moves back ends at the branch and begins again at the end of the loop, and what they read
-    // before they write it is needed at the branch.
-    fn cut(&mut self, lines: &[Line], back: usize, end: usize) -> Result<(), AllocError> {
-        let branch = back.saturating_sub(1);
-        let mut position = end - 1;
-        while position > back {
-            position -= 1;
-            if let Line::Done { instr } = &lines[position] {
-                if let Some(target) = target_of(instr) {
-                    self.end_at(target, branch, end)?;
-                    self.needs[target as usize].inner = None;
-                }
-                self.names.clear();
-                push_sources(&mut self.names, instr)?;
-                for k in 0..self.names.len() {
-                    self.end_at(self.names[k], branch, end)?;
-                    self.needs[self.names[k] as usize].inner = Some(branch);
-                }
-            }
-        }
-        for position in back..end {
-            if let Line::Done { instr } = &lines[position] {
-                self.names.clear();
-                push_sources(&mut self.names, instr)?;
-                for k in 0..self.names.len() {
-                    let name = self.names[k];
-                    if self.needs[name as usize].inner.is_some() {
-                        self.needs[name as usize].inner = None;
-                        self.need(name, branch)?;
-                    }
-                }
+    // The names of the moves back that are needed after the end of a loop are needed up to its branch,
+    // and again from the end on.
+    fn cut(&mut self, moves: &[Line], branch: usize, end: usize) -> Result<(), AllocError> {
+        for line in moves {
+            read_names(&mut self.names, line)?;
+            for k in 0..self.names.len() {
+                let name = self.names[k];
+                self.end_at(name, branch, end)?;
             }
         }
         Ok(())
     }
 
-    // A name that is needed after the end of a loop is needed up to its branch, and again from the end on.
     fn end_at(&mut self, name: u32, branch: usize, end: usize) -> Result<(), AllocError> {
         if let Some(last) = self.needs[name as usize].open {
             if last > branch {
@@ -339,6 +326,35 @@ impl Walk {
             }
         }
         Ok(())
+    }
+
+    // What the moves back read before they write it is needed up to the branch.
+    fn read_first(&mut self, moves: &[Line], branch: usize) -> Result<(), AllocError> {
+        for line in moves {
+            if let Line::Done { instr } = line {
+                self.read(instr)?;
+                for k in 0..self.names.len() {
+                    let name = self.names[k];
+                    if self.needs[name as usize].inner.is_none() {
+                        self.need(name, branch)?;
+                    }
+                }
+                if let Some(target) = target_of(instr) {
+                    self.needs[target as usize].inner = Some(branch);
+                }
+            }
+        }
+        Ok(())
+    }
+
+    fn forget_written(&mut self, moves: &[Line]) {
+        for line in moves {
+            if let Line::Done { instr } = line {
+                if let Some(target) = target_of(instr) {
+                    self.needs[target as usize].inner = None;
+                }
+            }
+        }
     }
 
     // What is needed after a loop and not at its label is not needed after its moves back.
@@ -352,54 +368,34 @@ impl Walk {
         Ok(())
     }
 
-    // Walks the moves back of a loop, after which the names that are needed at its label are needed.
-    fn moves_back(
-        &mut self,
-        lines: &[Line],
-        back: usize,
-        end: usize,
-        depth: u32,
-    ) -> Result<(), AllocError> {
-        for position in back..end - 1 {
-            if let Line::Done { instr } = &lines[position] {
-                self.names.clear();
-                push_sources(&mut self.names, instr)?;
-                if let Some(target) = target_of(instr) {
-                    self.names.push(target)?;
-                }
-                for k in 0..self.names.len() {
-                    let need = &mut self.needs[self.names[k] as usize];
-                    need.inner = if need.open.is_some() {
-                        Some(end - 1)
-                    } else {
-                        None
-                    };
-                }
-            }
-        }
-        let mut position = end - 1;
-        while position > back {
-            position -= 1;
-            if let Line::Done { instr } = &lines[position] {
-                self.move_back(instr, position, depth)?;
-            }
-        }
-        for position in back..end - 1 {
-            if let Line::Done { instr } = &lines[position] {
-                self.names.clear();
-                push_sources(&mut self.names, instr)?;
-                if let Some(target) = target_of(instr) {
-                    self.names.push(target)?;
-                }
-                for k in 0..self.names.len() {
-                    self.begin_back(self.names[k], back)?;
-                }
+    // Of the names of the moves back those are needed up to the jump that are needed at the label.
+    fn enter_moves(&mut self, moves: &[Line], jump: usize) -> Result<(), AllocError> {
+        for line in moves {
+            read_names(&mut self.names, line)?;
+            for name in self.names.as_slice() {
+                let need = &mut self.needs[*name as usize];
+                need.inner = if need.open.is_some() {
+                    Some(jump)
+                } else {
+                    None
+                };
             }
         }
         Ok(())
     }
 
-    // Walks an instruction of the moves back.
+    // Walks the moves back, which begin at a position.
+    fn moves_back(&mut self, moves: &[Line], back: usize, depth: u32) -> Result<(), AllocError> {
+        let mut count = moves.len();
+        while count > 0 {
+            count -= 1;
+            if let Line::Done { instr } = &moves[count] {
+                self.move_back(instr, back + count, depth)?;
+            }
+        }
+        Ok(())
+    }
+
     fn move_back(&mut self, instr: &Instr, position: usize, depth: u32) -> Result<(), AllocError> {
         self.depths[position] = depth;
         if let Instr::Move { target, source } = instr {
@@ -407,20 +403,31 @@ impl Walk {
                 && self.needs[*source as usize].inner.is_some();
         }
         if let Some(target) = target_of(instr) {
-            self.begin_back(target, position)?;
+            self.begin_inner(target, position)?;
         }
-        self.names.clear();
-        push_sources(&mut self.names, instr)?;
-        for k in 0..self.names.len() {
-            let need = &mut self.needs[self.names[k] as usize];
+        self.read(instr)?;
+        for name in self.names.as_slice() {
+            let need = &mut self.needs[*name as usize];
             if need.inner.is_none() {
-                need.inner = Some(position - 1);
+                need.inner = Some(position.saturating_sub(1));
             }
         }
         Ok(())
     }
 
-    fn begin_back(&mut self, name: u32, first: usize) -> Result<(), AllocError> {
+    // What the moves back need before they write it is needed from the first of them on.
+    fn leave_moves(&mut self, moves: &[Line], back: usize) -> Result<(), AllocError> {
+        for line in moves {
+            read_names(&mut self.names, line)?;
+            for k in 0..self.names.len() {
+                let name = self.names[k];
+                self.begin_inner(name, back)?;
+            }
+        }
+        Ok(())
+    }
+
+    fn begin_inner(&mut self, name: u32, first: usize) -> Result<(), AllocError> {
         if let Some(last) = self.needs[name as usize].inner {
             if first <= last {
                 self.segments[name as usize].push(Segment { first, last })?;
