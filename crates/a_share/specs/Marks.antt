@@ -1,7 +1,7 @@
 -- The sites of a code by its lines: what is known at each line, in the order of the lines.
 use Rattle.std.specs.Prelude.{◌≡◌, ℕ, suc, ◌==◌, false, List, [], ◌∷◌, ◌++◌}
 use Rattle.s_linear.specs.Linear.{Instr, Step, plain, choice, loop, Code, no_steps, step_then, Codes, no_codes, code_then, LinearFunction}
-use Rattle.s_linear.specs.Lines.{Line, enter, leave, done, branch_not_zero, branch_zero, branch_equal, jump, label, lines}
+use Rattle.s_linear.specs.Lines.{Line, done, branch_not_zero, branch_zero, branch_equal, lines}
 use Rattle.a_share.specs.Share.{Names, needed_by_instrs, needed_by_code, at_label, at_branch, Site, does, tests, last_of, sites}
 
 -- in how many loops a line stands, and what is needed after it

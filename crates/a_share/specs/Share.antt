@@ -1,6 +1,6 @@
 -- Places by need: two names share a place where no instruction writes one of them while the other is needed after it. Places 0 to
 -- 10 are the registers that a call keeps, 11 to 14 registers that it loses, and those from 15 on words of the frame.
-use Rattle.std.specs.Prelude.{ℕ, zero, suc, ◌-◌, ◌==◌, nat_lt, nat_le, Bool, true, false, not, ◌&&◌, ◌||◌, if◌then◌else◌, List, [], ◌∷◌, ◌++◌, map, filter, max, replicate, take, drop}
+use Rattle.std.specs.Prelude.{ℕ, zero, suc, ◌-◌, ◌==◌, nat_lt, nat_le, Bool, true, false, not, ◌&&◌, ◌||◌, if◌then◌else◌, List, [], ◌∷◌, ◌++◌, map, filter, max, take, drop}
 use Rattle.std.specs.List.{flat_map}
 use Rattle.val_core.specs.Numbers.{numbers_from}
 use Rattle.g_graph.specs.WellFormed.{some_of}
@@ -112,7 +112,9 @@ as_they_stand ks = last_of ks ++ others_of ks
 
 -- the branches of a choice, one for each code but the last
 abbrev pub branch_sites : (depth predicate : ℕ) → Codes → List Site
-branch_sites d p cs = replicate (counted cs - 1) (tests d p)
+branch_sites d p no_codes = []
+branch_sites d p (code_then k no_codes) = []
+branch_sites d p (code_then k ks) = tests d p ∷ branch_sites d p ks
 
 abbrev mutual
   pub step_sites : (depth : ℕ) → Step → Names → List Site

@@ -1,6 +1,6 @@
 -- The marks of a code stand beside its lines, one beside each, and give its sites.
 use Rattle.std.proofs.Common.{◌≡◌, ℕ, zero, suc, ◌+◌, List, [], ◌∷◌, ◌++◌, length, refl, sym, ap, ◌∙◌, arith}
-use Rattle.std.specs.Prelude.{◌-◌, false, replicate, map, ◌==◌}
+use Rattle.std.specs.Prelude.{false, map, ◌==◌}
 use Rattle.val_core.specs.Numbers.{numbers_from}
 use Rattle.std.proofs.lemmas.List.{append_assoc, append-nil}
 use Rattle.s_linear.specs.Linear.{Instr, Step, plain, choice, loop, Code, no_steps, step_then, Codes, no_codes, code_then, LinearFunction}
@@ -68,15 +68,19 @@ abbrev EachIsMarked : List Piece → Type 0
 EachIsMarked [] = Unit {0}
 EachIsMarked (k ∷ ks) = IsMarked k.line_list k.mark_list k.site_list × EachIsMarked ks
 
+-- branches, one for each piece but the last
+abbrev tested : (depth predicate : ℕ) → List Piece → List Site
+tested d p [] = []
+tested d p (k ∷ []) = []
+tested d p (k ∷ l ∷ ks) = tests d p ∷ tested d p (l ∷ ks)
+
 marked_branches : (p r first d : ℕ) (N : Names) (ks : List Piece)
-    → IsMarked (branches p r first (lines_in ks)) (branch_marks (mark d N) (marks_in ks)) (replicate (length ks - 1) (tests d p))
+    → IsMarked (branches p r first (lines_in ks)) (branch_marks (mark d N) (marks_in ks)) (tested d p ks)
 marked_branches p r first d N [] = marked_none
 marked_branches p r first d N (k ∷ []) = marked_none
 marked_branches p r first d N (k ∷ l ∷ ks) =
-    let rest : IsMarked (branches p (suc r) first (lines_in (l ∷ ks))) (branch_marks (mark d N) (marks_in (l ∷ ks))) (replicate (length ks) (tests d p)) =
-    marked_branches p (suc r) first d N (l ∷ ks) in
     marked_line (branch_equal p r (first + r)) (mark d N) (branches p (suc r) first (lines_in (l ∷ ks))) (branch_marks (mark d N) (marks_in (l ∷ ks)))
-    (replicate (length ks) (tests d p)) rest
+    (tested d p (l ∷ ks)) (marked_branches p (suc r) first d N (l ∷ ks))
 
 marked_last : (ks : List Piece) → EachIsMarked ks → IsMarked (last_lines (lines_in ks)) (last_of (marks_in ks)) (last_of (sites_in ks))
 marked_last [] a = marked_none
@@ -109,21 +113,20 @@ marked_no_more ls ks ms ns ss a b =
 marked_many : (p first end d : ℕ) (N : Names) (ks : List Piece) → EachIsMarked ks
     → IsMarked (branches p 0 first (lines_in ks) ++ last_lines (lines_in ks) ++ labelled 0 first end (lines_in ks) ++ label end ∷ [])
     (branch_marks (mark d N) (marks_in ks) ++ last_of (marks_in ks) ++ labelled_marks (mark d N) (marks_in ks) ++ mark d N ∷ [])
-    (replicate (length ks - 1) (tests d p) ++ (last_of (sites_in ks) ++ others_of (sites_in ks)))
+    (tested d p ks ++ (last_of (sites_in ks) ++ others_of (sites_in ks)))
 marked_many p first end d N ks a =
-    let tested = replicate (length ks - 1) (tests d p) in
     let first_ones = marked_append (branches p 0 first (lines_in ks)) (last_lines (lines_in ks)) (branch_marks (mark d N) (marks_in ks)) (last_of (marks_in ks))
-    tested (last_of (sites_in ks)) (marked_branches p 0 first d N ks) (marked_last ks a) in
+    (tested d p ks) (last_of (sites_in ks)) (marked_branches p 0 first d N ks) (marked_last ks a) in
     let all = marked_append (branches p 0 first (lines_in ks) ++ last_lines (lines_in ks)) (labelled 0 first end (lines_in ks))
-    (branch_marks (mark d N) (marks_in ks) ++ last_of (marks_in ks)) (labelled_marks (mark d N) (marks_in ks)) (tested ++ last_of (sites_in ks))
+    (branch_marks (mark d N) (marks_in ks) ++ last_of (marks_in ks)) (labelled_marks (mark d N) (marks_in ks)) (tested d p ks ++ last_of (sites_in ks))
     (others_of (sites_in ks)) first_ones (marked_others 0 first end d N ks a) in
     let whole = marked_no_more (branches p 0 first (lines_in ks) ++ last_lines (lines_in ks) ++ labelled 0 first end (lines_in ks)) (end_line end)
     (branch_marks (mark d N) (marks_in ks) ++ last_of (marks_in ks) ++ labelled_marks (mark d N) (marks_in ks)) (mark d N ∷ [])
-    (tested ++ last_of (sites_in ks) ++ others_of (sites_in ks)) all (marked_end end d N) in
+    (tested d p ks ++ last_of (sites_in ks) ++ others_of (sites_in ks)) all (marked_end end d N) in
     marked_sites (branches p 0 first (lines_in ks) ++ last_lines (lines_in ks) ++ labelled 0 first end (lines_in ks) ++ label end ∷ [])
     (branch_marks (mark d N) (marks_in ks) ++ last_of (marks_in ks) ++ labelled_marks (mark d N) (marks_in ks) ++ mark d N ∷ [])
-    (tested ++ last_of (sites_in ks) ++ others_of (sites_in ks)) (tested ++ (last_of (sites_in ks) ++ others_of (sites_in ks)))
-    (append_assoc tested (last_of (sites_in ks)) (others_of (sites_in ks))) whole
+    (tested d p ks ++ last_of (sites_in ks) ++ others_of (sites_in ks)) (tested d p ks ++ (last_of (sites_in ks) ++ others_of (sites_in ks)))
+    (append_assoc (tested d p ks) (last_of (sites_in ks)) (others_of (sites_in ks))) whole
 
 marked_two : (p first d : ℕ) (N : Names) (k l : Piece) → IsMarked k.line_list k.mark_list k.site_list → IsMarked l.line_list l.mark_list l.site_list
     → IsMarked (choice_lines p first (k.line_list ∷ l.line_list ∷ [])) (choice_marks (mark d N) (k.mark_list ∷ l.mark_list ∷ []))
@@ -140,17 +143,17 @@ marked_two p first d N k l a b =
 
 marked_pieces : (p first d : ℕ) (N : Names) (ks : List Piece) → EachIsMarked ks
     → IsMarked (choice_lines p first (lines_in ks)) (choice_marks (mark d N) (marks_in ks))
-    (replicate (length ks - 1) (tests d p) ++ as_they_stand (sites_in ks))
+    (tested d p ks ++ as_they_stand (sites_in ks))
 marked_pieces p first d N [] a = marked_none
 marked_pieces p first d N (k ∷ []) a = marked_many p first (first + 0) d N (k ∷ []) a
 marked_pieces p first d N (k ∷ l ∷ []) a = marked_two p first d N k l a.0 a.1.0
 marked_pieces p first d N (k ∷ l ∷ j ∷ ks) a =
     marked_many p first (first + before_last (lines_in (k ∷ l ∷ j ∷ ks))) d N (k ∷ l ∷ j ∷ ks) a
 
-marked_choice : (p first d : ℕ) (N : Names) (ks : List Piece) (ls : List LinesOf) (ms : List (List Mark)) (ss : List (List Site)) (n : ℕ) → lines_in ks ≡ ls
-    → marks_in ks ≡ ms → sites_in ks ≡ ss → length ks ≡ n → EachIsMarked ks
-    → IsMarked (choice_lines p first ls) (choice_marks (mark d N) ms) (replicate (n - 1) (tests d p) ++ as_they_stand ss)
-marked_choice p first d N ks ls ms ss n e f g h a = rw (e, f, g, h) at (marked_pieces p first d N ks a)
+marked_choice : (p first d : ℕ) (N : Names) (ks : List Piece) (ls : List LinesOf) (ms : List (List Mark)) (ss : List (List Site)) (bs : List Site)
+    → lines_in ks ≡ ls → marks_in ks ≡ ms → sites_in ks ≡ ss → tested d p ks ≡ bs → EachIsMarked ks
+    → IsMarked (choice_lines p first ls) (choice_marks (mark d N) ms) (bs ++ as_they_stand ss)
+marked_choice p first d N ks ls ms ss bs e f g h a = rw (e, f, g, h) at (marked_pieces p first d N ks a)
 
 -- ---- codes
 
@@ -180,10 +183,12 @@ sites_same last others d (code_then c no_codes) N = refl
 sites_same last others d (code_then c (code_then k cs)) N =
     ap (λ z. code_sites d c N ∷ z) (sites_same last (others + code_labels c) d (code_then k cs) N)
 
-length_same : (last others d : ℕ) (cs : Codes) (N : Names) → length (pieces last others d cs N) ≡ counted cs
-length_same last others d no_codes N = refl
-length_same last others d (code_then c no_codes) N = refl
-length_same last others d (code_then c (code_then k cs)) N = ap suc (length_same last (others + code_labels c) d (code_then k cs) N)
+branches_same : (last others d p : ℕ) (cs : Codes) (N : Names) → tested d p (pieces last others d cs N) ≡ branch_sites d p cs
+branches_same last others d p no_codes N = refl
+branches_same last others d p (code_then c no_codes) N = refl
+branches_same last others d p (code_then c (code_then k no_codes)) N = refl
+branches_same last others d p (code_then c (code_then k (code_then j cs))) N =
+    ap (λ z. tests d p ∷ z) (branches_same last (others + code_labels c) d p (code_then k (code_then j cs)) N)
 
 mutual
   marked_step : (first d : ℕ) (s : Step) (N : Names) → IsMarked (step_lines first s) (step_marks d s N) (step_sites d s N)
@@ -191,21 +196,21 @@ mutual
   marked_step first d (choice p cs) N =
       let last = last_from (first + counted cs) cs in
       let others = others_from (first + counted cs) cs in
-      marked_choice p first d N (pieces last others d cs N) (codes_lines last others cs) (codes_marks d cs N) (codes_sites d cs N) (counted cs)
-      (lines_same last others d cs N) (marks_same last others d cs N) (sites_same last others d cs N) (length_same last others d cs N)
+      marked_choice p first d N (pieces last others d cs N) (codes_lines last others cs) (codes_marks d cs N) (codes_sites d cs N) (branch_sites d p cs)
+      (lines_same last others d cs N) (marks_same last others d cs N) (sites_same last others d cs N) (branches_same last others d p cs N)
       (marked_codes last others d cs N)
-  marked_step first d (loop enter body p back) N =
+  marked_step first d (loop moves body p back) N =
       let L : Names = at_label body p back N in
       let B : Names = at_branch body p back N in
       marked_no_more
-      (map done enter ++ label first ∷ code_lines (2 + first) body ++ branch_zero p (suc first) ∷ map done back) (jump first ∷ end_line (suc first))
-      (instr_marks d enter L ++ mark d N ∷ code_marks (suc d) body B ++ mark (suc d) N ∷ instr_marks (suc d) back L) (mark d N ∷ mark d N ∷ [])
-      (instr_sites d enter L ++ code_sites (suc d) body B ++ tests (suc d) p ∷ instr_sites (suc d) back L)
-      (marked_append (map done enter ++ label first ∷ code_lines (2 + first) body) (branch_zero p (suc first) ∷ map done back)
-      (instr_marks d enter L ++ mark d N ∷ code_marks (suc d) body B) (mark (suc d) N ∷ instr_marks (suc d) back L)
-      (instr_sites d enter L ++ code_sites (suc d) body B) (tests (suc d) p ∷ instr_sites (suc d) back L)
-      (marked_append (map done enter) (label first ∷ code_lines (2 + first) body) (instr_marks d enter L) (mark d N ∷ code_marks (suc d) body B)
-      (instr_sites d enter L) (code_sites (suc d) body B) (marked_instrs d enter L)
+      (map done moves ++ label first ∷ code_lines (2 + first) body ++ branch_zero p (suc first) ∷ map done back) (jump first ∷ end_line (suc first))
+      (instr_marks d moves L ++ mark d N ∷ code_marks (suc d) body B ++ mark (suc d) N ∷ instr_marks (suc d) back L) (mark d N ∷ mark d N ∷ [])
+      (instr_sites d moves L ++ code_sites (suc d) body B ++ tests (suc d) p ∷ instr_sites (suc d) back L)
+      (marked_append (map done moves ++ label first ∷ code_lines (2 + first) body) (branch_zero p (suc first) ∷ map done back)
+      (instr_marks d moves L ++ mark d N ∷ code_marks (suc d) body B) (mark (suc d) N ∷ instr_marks (suc d) back L)
+      (instr_sites d moves L ++ code_sites (suc d) body B) (tests (suc d) p ∷ instr_sites (suc d) back L)
+      (marked_append (map done moves) (label first ∷ code_lines (2 + first) body) (instr_marks d moves L) (mark d N ∷ code_marks (suc d) body B)
+      (instr_sites d moves L) (code_sites (suc d) body B) (marked_instrs d moves L)
       (marked_line (label first) (mark d N) (code_lines (2 + first) body) (code_marks (suc d) body B) (code_sites (suc d) body B)
       (marked_code (2 + first) (suc d) body B)))
       (marked_line (branch_zero p (suc first)) (mark (suc d) N) (map done back) (instr_marks (suc d) back L) (instr_sites (suc d) back L)
@@ -219,8 +224,8 @@ mutual
       (step_sites d s (needed_by_code c N)) (code_sites d c N) (marked_step first d s (needed_by_code c N)) (marked_code (first + step_labels s) d c N)
 
   marked_codes : (last others d : ℕ) (cs : Codes) (N : Names) → EachIsMarked (pieces last others d cs N)
-  marked_codes last others d no_codes N = unit
-  marked_codes last others d (code_then c no_codes) N = (marked_code last d c N, unit)
+  marked_codes last others d no_codes N = tt
+  marked_codes last others d (code_then c no_codes) N = (marked_code last d c N, tt)
   marked_codes last others d (code_then c (code_then k cs)) N =
       (marked_code others d c N, marked_codes last (others + code_labels c) d (code_then k cs) N)
 

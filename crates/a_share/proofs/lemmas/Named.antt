@@ -1,6 +1,6 @@
 -- What is needed in a code, and what it writes, are names of the code, but for what is needed after it.
 use Rattle.std.proofs.Common.{◌≡◌, ℕ, zero, suc, Bool, true, false, not, ◌&&◌, List, [], ◌∷◌, ◌++◌, take, drop, flat_map, inl, inr, eqb-true, ap, sym, ◌∙◌}
-use Rattle.std.specs.Prelude.{◌==◌, ◌||◌, ◌-◌, nat_le, replicate, if◌then◌else◌}
+use Rattle.std.specs.Prelude.{◌==◌, ◌||◌, nat_le, if◌then◌else◌}
 use Rattle.std.proofs.lemmas.Bool.{or_cases, and_parts, cases_Bool, or_left, or_right}
 use Rattle.s_linear.specs.Linear.{Instr, Step, plain, choice, loop, Code, no_steps, step_then, Codes, no_codes, code_then}
 use Rattle.s_linear.specs.Lines.{counted, instr_names}
@@ -133,17 +133,17 @@ named_append names [] ts a b = b
 named_append names (s ∷ ss) ts a b = (a.0, named_append names ss ts a.1 b)
 
 named_last : (names : List ℕ) (ks : List (List Site)) → EachIsNamed names ks → AreNamed names (last_of ks)
-named_last names [] b = unit
+named_last names [] b = tt
 named_last names (k ∷ []) b = b.0
 named_last names (k ∷ l ∷ ks) b = named_last names (l ∷ ks) b.1
 
 named_others : (names : List ℕ) (ks : List (List Site)) → EachIsNamed names ks → AreNamed names (others_of ks)
-named_others names [] b = unit
-named_others names (k ∷ []) b = unit
+named_others names [] b = tt
+named_others names (k ∷ []) b = tt
 named_others names (k ∷ l ∷ ks) b = named_append names k (others_of (l ∷ ks)) b.0 (named_others names (l ∷ ks) b.1)
 
 named_as_they_stand : (names : List ℕ) (ks : List (List Site)) → EachIsNamed names ks → AreNamed names (as_they_stand ks)
-named_as_they_stand names [] b = unit
+named_as_they_stand names [] b = tt
 named_as_they_stand names (k ∷ []) b =
     named_append names (last_of (k ∷ [])) (others_of (k ∷ [])) (named_last names (k ∷ []) b) (named_others names (k ∷ []) b)
 named_as_they_stand names (k ∷ l ∷ []) b = named_append names k l b.0 b.1.0
@@ -151,13 +151,14 @@ named_as_they_stand names (k ∷ l ∷ m ∷ ks) b =
     named_append names (last_of (k ∷ l ∷ m ∷ ks)) (others_of (k ∷ l ∷ m ∷ ks)) (named_last names (k ∷ l ∷ m ∷ ks) b)
     (named_others names (k ∷ l ∷ m ∷ ks) b)
 
-named_tests : (names : List ℕ) (d p n : ℕ) → AreNamed names (replicate n (tests d p))
-named_tests names d p zero = unit
-named_tests names d p (suc n) = (unit, named_tests names d p n)
+named_branches : (names : List ℕ) (d p : ℕ) (cs : Codes) → AreNamed names (branch_sites d p cs)
+named_branches names d p no_codes = tt
+named_branches names d p (code_then c no_codes) = tt
+named_branches names d p (code_then c (code_then k cs)) = (tt, named_branches names d p (code_then k cs))
 
 named_instrs : (names : List ℕ) (d : ℕ) (is : List Instr) (N : Names) → AreWithin (flat_map instr_names is) names → IsWithin N names
     → AreNamed names (instr_sites d is N)
-named_instrs names d [] N h n = unit
+named_instrs names d [] N h n = tt
 named_instrs names d (i ∷ is) N h n =
     let here = within_left (instr_names i) (flat_map instr_names is) names h in
     let later = within_right (instr_names i) (flat_map instr_names is) names h in
@@ -165,9 +166,9 @@ named_instrs names d (i ∷ is) N h n =
 
 mutual
   named_step : (names : List ℕ) (d : ℕ) (s : Step) (N : Names) → AreWithin (step_names s) names → IsWithin N names → AreNamed names (step_sites d s N)
-  named_step names d (plain i) N h n = ((writes_within i names h, n), unit)
+  named_step names d (plain i) N h n = ((writes_within i names h, n), tt)
   named_step names d (choice p cs) N h n =
-      named_append names (branch_sites d p cs) (as_they_stand (codes_sites d cs N)) (named_tests names d p (counted cs - 1))
+      named_append names (branch_sites d p cs) (as_they_stand (codes_sites d cs N)) (named_branches names d p cs)
       (named_as_they_stand names (codes_sites d cs N)
       (named_codes names d cs N (within_right (predicate_names p cs) (codes_names cs) names h) n))
   named_step names d (loop enter body p back) N h n =
@@ -181,10 +182,10 @@ mutual
       (named_append names (instr_sites d enter (at_label body p back N)) (code_sites (suc d) body (at_branch body p back N))
       (named_instrs names d enter (at_label body p back N) (within_left (flat_map instr_names enter) (code_names body) names first) label)
       (named_code names (suc d) body (at_branch body p back N) inner (need_branch p back N (at_label body p back N) names last n label)))
-      (unit, named_instrs names (suc d) back (at_label body p back N) (within_tail p (flat_map instr_names back) names last) label)
+      (tt, named_instrs names (suc d) back (at_label body p back N) (within_tail p (flat_map instr_names back) names last) label)
 
   pub named_code : (names : List ℕ) (d : ℕ) (c : Code) (N : Names) → AreWithin (code_names c) names → IsWithin N names → AreNamed names (code_sites d c N)
-  named_code names d no_steps N h n = unit
+  named_code names d no_steps N h n = tt
   named_code names d (step_then s c) N h n =
       let later = within_right (step_names s) (code_names c) names h in
       named_append names (step_sites d s (needed_by_code c N)) (code_sites d c N)
@@ -193,7 +194,7 @@ mutual
 
   named_codes : (names : List ℕ) (d : ℕ) (cs : Codes) (N : Names) → AreWithin (codes_names cs) names → IsWithin N names
       → EachIsNamed names (codes_sites d cs N)
-  named_codes names d no_codes N h n = unit
+  named_codes names d no_codes N h n = tt
   named_codes names d (code_then c cs) N h n = (
     named_code names d c N (within_left (code_names c) (codes_names cs) names h) n,
     named_codes names d cs N (within_right (code_names c) (codes_names cs) names h) n,

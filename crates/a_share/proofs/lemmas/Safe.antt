@@ -71,7 +71,7 @@ part_tail s ss all h = record {
 }
 
 safe_all : (f : LinearFunction) (ss : List Site) → IsPart ss (sites f) → AreNamed (all_names f) ss → AreSafe (shared_place f) ss
-safe_all f [] h n = unit
+safe_all f [] h n = tt
 safe_all f (s ∷ ss) h n = (
   safe_at f s (λ x y e. h.clashes x y (or_left (clash_at x y s) (some_of (clash_at x y) ss) e))
       (λ x e. h.longs x (or_left (is_long_at x s) (is_long ss x) e)) n.0,
