@@ -4,3 +4,4 @@ pub mod Apart
 pub mod Named
 pub mod Safe
 pub mod Marked
+pub mod Few

@@ -28,3 +28,7 @@ SharedParamsDiffer = (f : LinearFunction) (x y : ℕ) → x < f.params → y < f
 -- The saved registers and words are enough for the place of each name.
 abbrev pub SharedPlacesAreCounted : Type 0
 SharedPlacesAreCounted = (f : LinearFunction) (x : ℕ) → IsTrue (among x (all_names f)) → counted_for (shared_place f x) ≤ (shared f).count
+
+-- Where all names are below a number, there are no more saved registers and words than it and 27.
+abbrev pub SharedPlacesAreFew : Type 0
+SharedPlacesAreFew = (n : ℕ) (f : LinearFunction) → IsTrue (all_of (λ x. nat_lt x n) (all_names f)) → (shared f).count ≤ n + 27

@@ -1,3 +1,5 @@
 pub mod Share
 pub mod Marks
 pub mod Laws
+pub mod Turns
+pub mod Walk

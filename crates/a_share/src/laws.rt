@@ -2,7 +2,7 @@
 //! that does nothing.
 
 ghost use Rattle.a_share.specs.Marks.{SitesStandAtLines};
-ghost use Rattle.a_share.specs.Laws.{SharedParamsDiffer, SharedPlacesAreCounted, SharedSitesAreSafe};
+ghost use Rattle.a_share.specs.Laws.{SharedParamsDiffer, SharedPlacesAreCounted, SharedPlacesAreFew, SharedSitesAreSafe};
 
 /// Shared places are safe at each instruction.
 pub fn shared_sites_are_safe()
@@ -17,6 +17,11 @@ pub fn shared_params_differ()
 /// The saved registers and words are enough for the place of each name.
 pub fn shared_places_are_counted()
     ensures { SharedPlacesAreCounted }
+{}
+
+/// There are no more saved registers and words than 27 and the number below which all names are.
+pub fn shared_places_are_few()
+    ensures { SharedPlacesAreFew }
 {}
 
 /// The sites of a function are those of its lines, in their order.

@@ -1,10 +1,20 @@
 //! What instructions and lines write and read.
 
+ghost use Rattle.std.specs.Prelude.{◌≡◌, ◌++◌, map, take, drop, IfOk, OnOk};
+ghost use Rattle.s_linear.specs.Lines.{instr_names, line_names};
+ghost use Rattle.s_linear.specs.Views.{instr_of, line_of};
+ghost use Rattle.a_place.specs.Places.{above, name_count};
+ghost use Rattle.a_share.specs.Share.{targets};
+ghost use Rattle.a_share.specs.Walk.{names_in, predicates_of};
+
 use s_linear::{Instr, Line};
-use std::alloc::AllocError;
+use std::alloc::{AllocError, Global};
 
 /// The name that an instruction writes.
-pub(crate) fn target_of(instr: &Instr) -> Option<u32> {
+pub(crate) fn target_of(instr: &Instr) -> Option<u32>
+    ensures { names_in result
+        ≡ take (targets (instr_of instr.now)) (instr_names (instr_of instr.now)) }
+{
     match instr {
         Instr::Const { target, .. }
         | Instr::Undef { target }
@@ -22,7 +32,10 @@ pub(crate) fn target_of(instr: &Instr) -> Option<u32> {
 }
 
 /// Adds the names that an instruction reads.
-pub(crate) fn push_sources(names: &mut Vec<u32>, instr: &Instr) -> Result<(), AllocError> {
+pub(crate) fn push_sources(names: &mut Vec<u32>, instr: &Instr) -> Result<(), AllocError>
+    ensures { OnOk result (names.new.items ≡ names.old.items
+        ++ drop (targets (instr_of instr.now)) (instr_names (instr_of instr.now))) }
+{
     match instr {
         Instr::Const { .. }
         | Instr::Undef { .. }
@@ -44,17 +57,14 @@ pub(crate) fn push_sources(names: &mut Vec<u32>, instr: &Instr) -> Result<(), Al
 }
 
 /// Reads the names of a line in place of those before.
-pub(crate) fn read_names(names: &mut Vec<u32>, line: &Line) -> Result<(), AllocError> {
+pub(crate) fn read_names(names: &mut Vec<u32>, line: &Line) -> Result<(), AllocError>
+    ensures { OnOk result (names.new.items ≡ line_names (line_of line.now)) }
+{
     names.clear();
     match line {
         Line::Enter { params } => names.extend_from_slice(params.as_slice()),
         Line::Leave { value } => names.extend_from_slice(&[*value]),
-        Line::Done { instr } => {
-            if let Some(target) = target_of(instr) {
-                names.push(target)?;
-            }
-            push_sources(names, instr)
-        }
+        Line::Done { instr } => push_names(names, instr),
         Line::BranchNotZero { predicate, .. }
         | Line::BranchZero { predicate, .. }
         | Line::BranchEqual { predicate, .. } => names.extend_from_slice(&[*predicate]),
@@ -62,8 +72,21 @@ pub(crate) fn read_names(names: &mut Vec<u32>, line: &Line) -> Result<(), AllocE
     }
 }
 
+// Adds the names of an instruction.
+#[tactic(auto, using(crate::proofs::Reading::names_whole))]
+fn push_names(names: &mut Vec<u32>, instr: &Instr) -> Result<(), AllocError>
+    ensures { OnOk result (names.new.items ≡ names.old.items ++ instr_names (instr_of instr.now)) }
+{
+    if let Some(target) = target_of(instr) {
+        names.extend_from_slice(&[target])?;
+    }
+    push_sources(names, instr)
+}
+
 /// The predicate of a branch.
-pub(crate) fn predicate_of(line: &Line) -> Option<u32> {
+pub(crate) fn predicate_of(line: &Line) -> Option<u32>
+    ensures { names_in result ≡ predicates_of (line_of line.now) }
+{
     match line {
         Line::BranchNotZero { predicate, .. }
         | Line::BranchZero { predicate, .. }
@@ -73,13 +96,24 @@ pub(crate) fn predicate_of(line: &Line) -> Option<u32> {
 }
 
 /// One more than the greatest name of these lines, or 0 where there is none.
-pub(crate) fn name_count(names: &mut Vec<u32>, lines: &[Line]) -> Result<usize, AllocError> {
+pub(crate) fn name_count(alloc: Global, lines: &[Line]) -> Result<usize, AllocError>
+    ensures { IfOk result (λ n. n ≡ name_count (map line_of lines.now)) }
+{
     let mut count = 0;
+    let mut names = Vec::new(alloc);
     for line in lines {
-        read_names(names, line)?;
-        for name in names.as_slice() {
-            count = count.max(*name as usize + 1);
-        }
+        read_names(&mut names, line)?;
+        count = count.max(above(&names));
     }
     Ok(count)
+}
+
+fn above(names: &[u32]) -> usize
+    ensures { result ≡ above names.now }
+{
+    let mut count = 0;
+    for name in names {
+        count = count.max(*name as usize + 1);
+    }
+    count
 }

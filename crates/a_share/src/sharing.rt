@@ -1,5 +1,12 @@
 //! The shared places of the names of linear code.
 
+ghost use Rattle.std.specs.Prelude.{◌≡◌, IfOk, IsTrue};
+ghost use Rattle.g_graph.specs.WellFormed.{all_of};
+ghost use Rattle.s_linear.specs.Linear.{LinearFunction};
+ghost use Rattle.s_linear.specs.Lines.{lines, names_below};
+ghost use Rattle.a_share.specs.Share.{shared};
+ghost use Rattle.a_share.specs.Turns.{HasOwnTurns};
+
 use crate::facts::{calls_before, in_order, is_long, links, name_depths, writes};
 use crate::giving::{Giving, Name};
 use crate::reading::name_count;
@@ -9,10 +16,15 @@ use s_linear::{Line, Linear, Places};
 use std::alloc::Global;
 
 /// The place of each name up to the greatest of these lines, and how many saved registers and words
-/// there are. A name that does not occur has place 0. `NoMemory` only where the allocator has none.
-pub fn share(alloc: Global, linear: &Linear) -> Result<Places, NoMemory> {
+/// there are. A name that does not occur has place 0. Each name is below 4294967295. `NoMemory` only
+/// where the allocator has none.
+pub fn share(alloc: Global, linear: &Linear) -> Result<Places, NoMemory>
+    requires { IsTrue (all_of (names_below 4294967295) linear.now) }
+    ensures { IfOk result (λ p. (f : LinearFunction) → lines f ≡ linear.now → HasOwnTurns f
+        → p ≡ shared f) }
+{
     let lines = linear.lines.as_slice();
-    let count = name_count(&mut Vec::new(alloc), lines)?;
+    let count = name_count(alloc, lines)?;
     let walk = walk_back(alloc, lines, count)?;
     let depths = name_depths(alloc, lines, &walk.depths, count)?;
     let order = in_order(alloc, &depths)?;
