@@ -8,7 +8,7 @@ use Rattle.a_share.specs.Share.{shared}
 abbrev over_calls : LinearFunction
 over_calls = record { number = 0; params = 2; objects = []; code = step_then (plain (call 0 2 (0 ∷ []))) (step_then (plain (call 0 3 (1 ∷ []))) (step_then (plain (binary Add 4 2 3)) (step_then (plain (binary Add 5 4 0)) no_steps))); value = 5 }
 
-pub over-calls-places : shared over_calls ≡ record { of = 0 ∷ 1 ∷ 2 ∷ 11 ∷ 11 ∷ 11 ∷ []; count = 3 }
+over-calls-places : shared over_calls ≡ record { of = 0 ∷ 1 ∷ 2 ∷ 11 ∷ 11 ∷ 11 ∷ []; count = 3 }
 over-calls-places = refl
 
 -- eight parameters, of which the second is the value

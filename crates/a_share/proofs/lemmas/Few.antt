@@ -34,8 +34,8 @@ level_fits A D m (x ∷ xs) =
             | inl same ↦
                 let under : nat_le (D x) (suc m) ≡ true = grind (arith, nat_tests) in
                 elim (cases_Bool (A x && (D x == suc m))) [
-                  | inl yes ↦ rw (yes, high, under) (omega arith)
-                  | inr no ↦ rw (no, high, under) (omega arith)
+                  | inl holds ↦ rw (holds, high, under) (omega arith)
+                  | inr fails ↦ rw (fails, high, under) (omega arith)
                 ]
             | inr other ↦
                 let no : (A x && (D x == suc m)) ≡ false = not_both (A x) (D x == suc m) other in
@@ -51,14 +51,14 @@ lowest_fits A D [] = omega arith
 lowest_fits A D (x ∷ xs) =
     let rest : length (filter (λ x. A x && (D x == zero)) xs) ≤ length (filter (λ x. nat_le (D x) zero) xs) = lowest_fits A D xs in
     elim (cases_Bool (A x && (D x == zero))) [
-      | inl yes ↦
-          let same : D x ≡ zero = eqb-true (D x) zero (and_parts (A x) (D x == zero) yes).1 in
+      | inl holds ↦
+          let same : D x ≡ zero = eqb-true (D x) zero (and_parts (A x) (D x == zero) holds).1 in
           let under : nat_le (D x) zero ≡ true = grind (arith, nat_tests) in
-          rw (yes, under) (omega arith)
-      | inr no ↦
+          rw (holds, under) (omega arith)
+      | inr fails ↦
           elim (cases_Bool (nat_le (D x) zero)) [
-            | inl under ↦ rw (no, under) (omega arith)
-            | inr over ↦ rw (no, over) (omega arith)
+            | inl under ↦ rw (fails, under) (omega arith)
+            | inr over ↦ rw (fails, over) (omega arith)
           ]
     ]
 

@@ -1,4 +1,3 @@
-use Rattle.a_share.proofs.Examples.{over-calls-places}
 use Rattle.a_share.proofs.lemmas.Safe.{shared_params_differ}
 use Rattle.a_share.proofs.laws.shared_params_differ.Goals as goal
 
