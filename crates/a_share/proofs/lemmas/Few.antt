@@ -27,8 +27,8 @@ level_fits A D m (x ∷ xs) =
       | inl low ↦
           let other : (D x == suc m) ≡ false = grind (arith, nat_tests) in
           let under : nat_le (D x) (suc m) ≡ true = grind (arith, nat_tests) in
-          let no : (A x && (D x == suc m)) ≡ false = not_both (A x) (D x == suc m) other in
-          rw (no, low, under) (omega arith)
+          let apart : (A x && (D x == suc m)) ≡ false = not_both (A x) (D x == suc m) other in
+          rw (apart, low, under) (omega arith)
       | inr high ↦
           elim (cases_Bool (D x == suc m)) [
             | inl same ↦
@@ -38,10 +38,10 @@ level_fits A D m (x ∷ xs) =
                   | inr fails ↦ rw (fails, high, under) (omega arith)
                 ]
             | inr other ↦
-                let no : (A x && (D x == suc m)) ≡ false = not_both (A x) (D x == suc m) other in
+                let apart : (A x && (D x == suc m)) ≡ false = not_both (A x) (D x == suc m) other in
                 elim (cases_Bool (nat_le (D x) (suc m))) [
-                  | inl under ↦ rw (no, high, under) (omega arith)
-                  | inr over ↦ rw (no, high, over) (omega arith)
+                  | inl under ↦ rw (apart, high, under) (omega arith)
+                  | inr over ↦ rw (apart, high, over) (omega arith)
                 ]
           ]
     ]
