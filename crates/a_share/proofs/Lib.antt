@@ -1,3 +1,3 @@
 pub mod lemmas
 mod Examples
-mod Reading
+mod WholeNames

@@ -73,7 +73,7 @@ pub(crate) fn read_names(names: &mut Vec<u32>, line: &Line) -> Result<(), AllocE
 }
 
 // Adds the names of an instruction.
-#[tactic(auto, using(crate::proofs::Reading::names_whole))]
+#[tactic(auto, using(crate::proofs::WholeNames::names_whole))]
 fn push_names(names: &mut Vec<u32>, instr: &Instr) -> Result<(), AllocError>
     ensures { OnOk result (names.new.items ≡ names.old.items ++ instr_names (instr_of instr.now)) }
 {
