@@ -6,7 +6,8 @@ use Rattle.c_typed.specs.WellTyped.{params_of}
 use Rattle.c_mean.specs.Run.{objects_of, params_in_scope}
 use Rattle.c_interp_store.specs.Holding.{Holds}
 use Rattle.c_interp_def.specs.ExprTasks.{newest}
-use Rattle.c_interp_def.specs.CallLaws.{call_tasks, call_memory}
+use Rattle.c_interp_def.specs.StmtTasks.{handler, end_call}
+use Rattle.c_interp_def.specs.CallLaws.{call_memory}
 use Rattle.c_interp_expand.specs.TaskViews.{tasks_of}
 use Rattle.c_interp.specs.declared.stop.Stop.{Stop}
 use Rattle.c_interp.specs.declared.stop.Stop.TheVariants as stop
@@ -40,9 +41,9 @@ IsFrame p f count fn old new (Err s) = (m : Memory) → IsHeld p old m → ⊥
 abbrev pub waiting : Machine → Active
 waiting m = record { frame = m.frame; slots = m.slots }
 
--- the tasks of the function were put, and the machine has its frame
-pub record HasEntered (active : Active) (fn : FunctionTree) (old new : Machine) : Type 0 where
-  pub tasks : tasks_of new.tasks.items ≡ tasks_of old.tasks.items ++ call_tasks fn
+-- the end of the call was put, and the machine has its frame
+pub record HasEntered (active : Active) (old new : Machine) : Type 0 where
+  pub tasks : tasks_of new.tasks.items ≡ tasks_of old.tasks.items ++ handler end_call ∷ []
   pub frame_is : new.frame ≡ active.frame
   pub slots_are : new.slots ≡ active.slots
   pub callers : new.callers.items ≡ old.callers.items ++ waiting old ∷ []
@@ -50,7 +51,7 @@ pub record HasEntered (active : Active) (fn : FunctionTree) (old new : Machine) 
   pub flow : new.flow ≡ old.flow
   pub store : new.store ≡ old.store
 
-abbrev pub IsEntered : Active → FunctionTree → (old new : Machine) → Result Unit Stop → Type 0
-IsEntered active fn old new (Ok u) = HasEntered active fn old new
-IsEntered active fn old new (Err stop.NoMemory) = Unit {0}
-IsEntered active fn old new (Err s) = ⊥
+abbrev pub IsEntered : Active → (old new : Machine) → Result Unit Stop → Type 0
+IsEntered active old new (Ok u) = HasEntered active old new
+IsEntered active old new (Err stop.NoMemory) = Unit {0}
+IsEntered active old new (Err s) = ⊥

@@ -20,10 +20,11 @@ ghost use Rattle.c_interp.specs.Calls.{IsFrame, IsEntered};
 
 use crate::frame::{Active, Frame};
 use crate::machine::{Machine, Program};
+use crate::nested::run_items;
 use crate::operands::give;
 use crate::stop::Stop;
 use crate::variable::address_of;
-use c_interp_def::{Flow, Handler, Slot, StmtTask, Task};
+use c_interp_def::{Flow, Handler, Slot, Task};
 use c_interp_store::Store;
 use c_interp_value::access_width;
 use c_typed::{TFunction, Variable};
@@ -38,14 +39,14 @@ const MOST_BLOCKS: u64 = 0x8000_0000_0000_0000;
 /// Calls a function with so many of the newest operands.
 pub(crate) fn call<'a>(
     machine: &mut Machine<'a>,
-    program: Program<'a>,
+    program: &Program<'a>,
     function: u32,
     count: usize,
 ) -> Result<(), Stop>
-    requires laid { IsLaid program.typed.now program.layouts.now }
+    requires laid { IsLaid program.now.typed.now program.now.layouts.now }
     requires normal { machine.old.flow ≡ Normal }
-    ensures { (n : ℕ) → IsStep program.entry.typed.now n result machine.old machine.new
-        (expr_task_run program.entry.typed.now n (task.call function count)) }
+    ensures { (n : ℕ) → IsStep program.now.typed.now n result machine.old machine.new
+        (expr_task_run program.now.typed.now n (task.call function count)) }
 {
     if machine.frame.depth == 0 {
         return Err(Stop::Cut);
@@ -55,23 +56,50 @@ pub(crate) fn call<'a>(
         return Err(Stop::Undefined);
     };
     match frame_of(machine, program, function, f, count) {
-        Ok(active) => enter(machine, active, f),
+        Ok(active) => begin_call(machine, program, active, f),
         Err(stop) => Err(stop),
+    }
+}
+
+// The call begins, and its body; where that has ended at once, so does the call.
+fn begin_call<'a>(
+    machine: &mut Machine<'a>,
+    program: &Program<'a>,
+    active: Active,
+    f: &'a TFunction,
+) -> Result<(), Stop>
+    requires laid { IsLaid program.now.typed.now program.now.layouts.now }
+{
+    enter(machine, active)?;
+    run_items(machine, program, &f.body)?;
+    end_at_once(machine, program)
+}
+
+// The newest call ends, where that is the next task.
+fn end_at_once<'a>(machine: &mut Machine<'a>, program: &Program<'a>) -> Result<(), Stop>
+    requires laid { IsLaid program.now.typed.now program.now.layouts.now }
+{
+    match machine.tasks.last() {
+        Some(Task::Handler(Handler::EndCall)) => {
+            machine.tasks.pop();
+            end_call(machine, program)
+        }
+        _ => Ok(()),
     }
 }
 
 // The frame of a call of this function. Its blocks are opened, and its arguments taken.
 fn frame_of<'a>(
     machine: &mut Machine<'a>,
-    program: Program<'a>,
+    program: &Program<'a>,
     function: u32,
     f: &'a TFunction,
     count: usize,
 ) -> Result<Active, Stop>
-    requires laid { IsLaid program.typed.now program.layouts.now }
-    requires there { slice_get program.typed.now.functions function ≡ Some f.now }
+    requires laid { IsLaid program.now.typed.now program.now.layouts.now }
+    requires there { slice_get program.now.typed.now.functions function ≡ Some f.now }
     requires depth { 0 < machine.old.frame.depth }
-    ensures { IsFrame program.entry.typed.now function count f.now machine.old machine.new result }
+    ensures { IsFrame program.now.typed.now function count f.now machine.old machine.new result }
 {
     let layouts = program.layouts;
     let Some(layout) = layouts.functions.get(function as usize) else {
@@ -124,20 +152,20 @@ fn blank_slots(spare: &mut Vec<Slot>, alloc: Global, count: usize) -> Result<Vec
 // are objects are stored.
 fn take_arguments<'a>(
     mut slots: Vec<Slot>,
-    program: Program<'a>,
+    program: &Program<'a>,
     function: u32,
     first: u64,
     params: &[Variable],
     arguments: &[Value],
     store: &mut Store,
 ) -> Result<Vec<Slot>, Stop>
-    requires laid { IsLaid program.typed.now program.layouts.now }
+    requires laid { IsLaid program.now.typed.now program.now.layouts.now }
     requires fit { first < 2 ^ 63 }
     requires few { length params.now < 2 ^ 32 }
     requires blank { slots.items ≡ [] }
     ensures stored { (calls : List Opened) (m : Memory) → Holds store.old calls m →
         IsStored calls (params_stored (address_in first
-        (object_sizes program.entry.typed.now (variables_of program.entry.typed.now function)))
+        (object_sizes program.now.typed.now (variables_of program.now.typed.now function)))
         0 params.now arguments.now m) store.new result }
     ensures slots { IfOk result (λ slots. slots_of slots.items
         ≡ params_in_scope 0 params.now arguments.now) }
@@ -171,16 +199,13 @@ fn argument_at(arguments: &[Value], i: usize) -> Value
 }
 
 // The call begins, and its caller waits.
-fn enter<'a>(machine: &mut Machine<'a>, active: Active, f: &'a TFunction) -> Result<(), Stop>
-    ensures { IsEntered active f.now machine.old machine.new result }
+fn enter<'a>(machine: &mut Machine<'a>, active: Active) -> Result<(), Stop>
+    ensures { IsEntered active machine.old machine.new result }
 {
     let frame = replace(&mut machine.frame, active.frame);
     let slots = replace(&mut machine.slots, active.slots);
     machine.callers.push(Active { frame, slots })?;
     machine.tasks.push(Task::Handler(Handler::EndCall))?;
-    machine
-        .tasks
-        .push(Task::OfStmt(StmtTask::RunItems(&f.body)))?;
     Ok(())
 }
 
@@ -197,10 +222,10 @@ fn value_at_end(is_main: bool, flow: Flow) -> Value
 }
 
 /// The newest call has ended: the caller goes on with its value.
-pub(crate) fn end_call<'a>(machine: &mut Machine<'a>, program: Program<'a>) -> Result<(), Stop>
-    requires laid { IsLaid program.typed.now program.layouts.now }
-    ensures { (n : ℕ) → IsStep program.entry.typed.now n result machine.old machine.new
-        (handler_run program.entry.typed.now n stmt.end_call (flow_of machine.old.flow)) }
+pub(crate) fn end_call<'a>(machine: &mut Machine<'a>, program: &Program<'a>) -> Result<(), Stop>
+    requires laid { IsLaid program.now.typed.now program.now.layouts.now }
+    ensures { (n : ℕ) → IsStep program.now.typed.now n result machine.old machine.new
+        (handler_run program.now.typed.now n stmt.end_call (flow_of machine.old.flow)) }
 {
     let typed = program.typed;
     let value = value_at_end(machine.frame.function == typed.main, machine.flow);

@@ -39,13 +39,13 @@ const DEPTH: u32 = 8;
 /// An expression.
 pub(crate) fn evaluate<'a>(
     machine: &mut Machine<'a>,
-    program: Program<'a>,
+    program: &Program<'a>,
     e: &'a TExpr,
 ) -> Result<(), Stop>
-    requires laid { IsLaid program.typed.now program.layouts.now }
+    requires laid { IsLaid program.now.typed.now program.now.layouts.now }
     requires normal { machine.old.flow ≡ Normal }
-    ensures { (n : ℕ) → IsStep program.entry.typed.now n result machine.old machine.new
-        (expr_task_run program.entry.typed.now n (task.evaluate e.now)) }
+    ensures { (n : ℕ) → IsStep program.now.typed.now n result machine.old machine.new
+        (expr_task_run program.now.typed.now n (task.evaluate e.now)) }
 {
     evaluate_to(machine, program, e, DEPTH)
 }
@@ -53,13 +53,13 @@ pub(crate) fn evaluate<'a>(
 /// An expression that is not known at once.
 pub(crate) fn evaluate_unknown<'a>(
     machine: &mut Machine<'a>,
-    program: Program<'a>,
+    program: &Program<'a>,
     e: &'a TExpr,
 ) -> Result<(), Stop>
-    requires laid { IsLaid program.typed.now program.layouts.now }
+    requires laid { IsLaid program.now.typed.now program.now.layouts.now }
     requires normal { machine.old.flow ≡ Normal }
-    ensures { (n : ℕ) → IsStep program.entry.typed.now n result machine.old machine.new
-        (expr_task_run program.entry.typed.now n (task.evaluate e.now)) }
+    ensures { (n : ℕ) → IsStep program.now.typed.now n result machine.old machine.new
+        (expr_task_run program.now.typed.now n (task.evaluate e.now)) }
 {
     unknown_to(machine, program, e, DEPTH)
 }
@@ -67,13 +67,13 @@ pub(crate) fn evaluate_unknown<'a>(
 /// A place, whose address becomes an operand.
 pub(crate) fn locate<'a>(
     machine: &mut Machine<'a>,
-    program: Program<'a>,
+    program: &Program<'a>,
     q: &'a TPlace,
 ) -> Result<(), Stop>
-    requires laid { IsLaid program.typed.now program.layouts.now }
+    requires laid { IsLaid program.now.typed.now program.now.layouts.now }
     requires normal { machine.old.flow ≡ Normal }
-    ensures { (n : ℕ) → IsStep program.entry.typed.now n result machine.old machine.new
-        (expr_task_run program.entry.typed.now n (task.locate q.now)) }
+    ensures { (n : ℕ) → IsStep program.now.typed.now n result machine.old machine.new
+        (expr_task_run program.now.typed.now n (task.locate q.now)) }
 {
     locate_to(machine, program, q, DEPTH)
 }
@@ -81,21 +81,21 @@ pub(crate) fn locate<'a>(
 /// Arguments, which become operands.
 pub(crate) fn pass_each<'a>(
     machine: &mut Machine<'a>,
-    program: Program<'a>,
+    program: &Program<'a>,
     es: &'a [TExpr],
 ) -> Result<(), Stop>
-    requires laid { IsLaid program.typed.now program.layouts.now }
+    requires laid { IsLaid program.now.typed.now program.now.layouts.now }
     requires normal { machine.old.flow ≡ Normal }
-    ensures { (n : ℕ) → IsStep program.entry.typed.now n result machine.old machine.new
-        (expr_task_run program.entry.typed.now n (task.pass_each (exprs_of es.now))) }
+    ensures { (n : ℕ) → IsStep program.now.typed.now n result machine.old machine.new
+        (expr_task_run program.now.typed.now n (task.pass_each (exprs_of es.now))) }
 {
     pass_to(machine, program, es, DEPTH)
 }
 
 // The value of an expression that may be known by its form.
-fn answered<'a>(machine: &Machine<'a>, program: Program<'a>, e: &TExpr) -> Option<Value>
-    requires laid { IsLaid program.typed.now program.layouts.now }
-    ensures { (n : ℕ) → Knows program.entry.typed.now n machine.now
+fn answered<'a>(machine: &Machine<'a>, program: &Program<'a>, e: &TExpr) -> Option<Value>
+    requires laid { IsLaid program.now.typed.now program.now.layouts.now }
+    ensures { (n : ℕ) → Knows program.now.typed.now n machine.now
         (λ c s. IsValue c e.now s result) }
 {
     match &e.form {
@@ -112,14 +112,14 @@ fn answered<'a>(machine: &Machine<'a>, program: Program<'a>, e: &TExpr) -> Optio
 #[cycle(evaluate)]
 fn evaluate_to<'a>(
     machine: &mut Machine<'a>,
-    program: Program<'a>,
+    program: &Program<'a>,
     e: &'a TExpr,
     depth: u32,
 ) -> Result<(), Stop>
-    requires laid { IsLaid program.typed.now program.layouts.now }
+    requires laid { IsLaid program.now.typed.now program.now.layouts.now }
     requires normal { machine.old.flow ≡ Normal }
-    ensures { (n : ℕ) → IsStep program.entry.typed.now n result machine.old machine.new
-        (expr_task_run program.entry.typed.now n (task.evaluate e.now)) }
+    ensures { (n : ℕ) → IsStep program.now.typed.now n result machine.old machine.new
+        (expr_task_run program.now.typed.now n (task.evaluate e.now)) }
 {
     match answered(machine, program, e) {
         Some(v) => give_value(machine, v),
@@ -131,14 +131,14 @@ fn evaluate_to<'a>(
 #[cycle(evaluate)]
 fn unknown_to<'a>(
     machine: &mut Machine<'a>,
-    program: Program<'a>,
+    program: &Program<'a>,
     e: &'a TExpr,
     depth: u32,
 ) -> Result<(), Stop>
-    requires laid { IsLaid program.typed.now program.layouts.now }
+    requires laid { IsLaid program.now.typed.now program.now.layouts.now }
     requires normal { machine.old.flow ≡ Normal }
-    ensures { (n : ℕ) → IsStep program.entry.typed.now n result machine.old machine.new
-        (expr_task_run program.entry.typed.now n (task.evaluate e.now)) }
+    ensures { (n : ℕ) → IsStep program.now.typed.now n result machine.old machine.new
+        (expr_task_run program.now.typed.now n (task.evaluate e.now)) }
 {
     if depth == 0 {
         return expand(machine, e);
@@ -225,16 +225,16 @@ fn operated(store: &Store, op: BinaryOp, a: &TExpr, b: &TExpr, x: Value, y: Valu
 #[cycle(evaluate)]
 fn unary_to<'a>(
     machine: &mut Machine<'a>,
-    program: Program<'a>,
+    program: &Program<'a>,
     op: UnaryOp,
     t: &'a CType,
     a: &'a TExpr,
     depth: u32,
 ) -> Result<(), Stop>
-    requires laid { IsLaid program.typed.now program.layouts.now }
+    requires laid { IsLaid program.now.typed.now program.now.layouts.now }
     requires normal { machine.old.flow ≡ Normal }
-    ensures { (n : ℕ) → IsStep program.entry.typed.now n result machine.old machine.new
-        (expr_task_run program.entry.typed.now n
+    ensures { (n : ℕ) → IsStep program.now.typed.now n result machine.old machine.new
+        (expr_task_run program.now.typed.now n
         (task.evaluate (expr t.now (unary op a.now)))) }
 {
     machine.tasks.push(unary_task(op, t, a))?;
@@ -245,15 +245,15 @@ fn unary_to<'a>(
 #[cycle(evaluate)]
 fn and_to<'a>(
     machine: &mut Machine<'a>,
-    program: Program<'a>,
+    program: &Program<'a>,
     a: &'a TExpr,
     b: &'a TExpr,
     depth: u32,
 ) -> Result<(), Stop>
-    requires laid { IsLaid program.typed.now program.layouts.now }
+    requires laid { IsLaid program.now.typed.now program.now.layouts.now }
     requires normal { machine.old.flow ≡ Normal }
-    ensures { (t : TypeTree) (n : ℕ) → IsStep program.entry.typed.now n result machine.old machine.new
-        (expr_task_run program.entry.typed.now n
+    ensures { (t : TypeTree) (n : ℕ) → IsStep program.now.typed.now n result machine.old machine.new
+        (expr_task_run program.now.typed.now n
         (task.evaluate (expr t (logical_and a.now b.now)))) }
 {
     match known_truth(machine, program, a) {
@@ -270,15 +270,15 @@ fn and_to<'a>(
 #[cycle(evaluate)]
 fn or_to<'a>(
     machine: &mut Machine<'a>,
-    program: Program<'a>,
+    program: &Program<'a>,
     a: &'a TExpr,
     b: &'a TExpr,
     depth: u32,
 ) -> Result<(), Stop>
-    requires laid { IsLaid program.typed.now program.layouts.now }
+    requires laid { IsLaid program.now.typed.now program.now.layouts.now }
     requires normal { machine.old.flow ≡ Normal }
-    ensures { (t : TypeTree) (n : ℕ) → IsStep program.entry.typed.now n result machine.old machine.new
-        (expr_task_run program.entry.typed.now n
+    ensures { (t : TypeTree) (n : ℕ) → IsStep program.now.typed.now n result machine.old machine.new
+        (expr_task_run program.now.typed.now n
         (task.evaluate (expr t (logical_or a.now b.now)))) }
 {
     match known_truth(machine, program, a) {
@@ -295,33 +295,40 @@ fn or_to<'a>(
 #[cycle(evaluate)]
 fn test_to<'a>(
     machine: &mut Machine<'a>,
-    program: Program<'a>,
+    program: &Program<'a>,
     b: &'a TExpr,
     depth: u32,
 ) -> Result<(), Stop>
-    requires laid { IsLaid program.typed.now program.layouts.now }
+    requires laid { IsLaid program.now.typed.now program.now.layouts.now }
     requires normal { machine.old.flow ≡ Normal }
-    ensures { (n : ℕ) → IsStep program.entry.typed.now n result machine.old machine.new
-        (tested_run program.entry.typed.now n b.now) }
+    ensures { (n : ℕ) → IsStep program.now.typed.now n result machine.old machine.new
+        (tested_run program.now.typed.now n b.now) }
 {
-    machine.tasks.push(test_task(b))?;
-    evaluate_to(machine, program, b, depth)
+    if !is_not(b) {
+        machine.tasks.push(test_task(b))?;
+    }
+    unknown_to(machine, program, b, depth)
+}
+
+// Whether an expression is `!`, whose value is its truth.
+fn is_not(b: &TExpr) -> bool {
+    matches!(&b.form, ExprForm::Unary(UnaryOp::LogicalNot, _))
 }
 
 // `?:`, of which the condition is looked into so deep, and the operand that is chosen.
 #[cycle(evaluate)]
 fn choose_to<'a>(
     machine: &mut Machine<'a>,
-    program: Program<'a>,
+    program: &Program<'a>,
     d: &'a TExpr,
     a: &'a TExpr,
     b: &'a TExpr,
     depth: u32,
 ) -> Result<(), Stop>
-    requires laid { IsLaid program.typed.now program.layouts.now }
+    requires laid { IsLaid program.now.typed.now program.now.layouts.now }
     requires normal { machine.old.flow ≡ Normal }
-    ensures { (t : TypeTree) (n : ℕ) → IsStep program.entry.typed.now n result machine.old machine.new
-        (expr_task_run program.entry.typed.now n
+    ensures { (t : TypeTree) (n : ℕ) → IsStep program.now.typed.now n result machine.old machine.new
+        (expr_task_run program.now.typed.now n
         (task.evaluate (expr t (conditional d.now a.now b.now)))) }
 {
     match known_truth(machine, program, d) {
@@ -338,16 +345,16 @@ fn choose_to<'a>(
 #[cycle(evaluate)]
 fn operate_to<'a>(
     machine: &mut Machine<'a>,
-    program: Program<'a>,
+    program: &Program<'a>,
     op: BinaryOp,
     a: &'a TExpr,
     b: &'a TExpr,
     depth: u32,
 ) -> Result<(), Stop>
-    requires laid { IsLaid program.typed.now program.layouts.now }
+    requires laid { IsLaid program.now.typed.now program.now.layouts.now }
     requires normal { machine.old.flow ≡ Normal }
-    ensures { (t : TypeTree) (n : ℕ) → IsStep program.entry.typed.now n result machine.old machine.new
-        (expr_task_run program.entry.typed.now n
+    ensures { (t : TypeTree) (n : ℕ) → IsStep program.now.typed.now n result machine.old machine.new
+        (expr_task_run program.now.typed.now n
         (task.evaluate (expr t (binary op a.now b.now)))) }
 {
     match known(machine, program, a) {
@@ -364,19 +371,19 @@ fn operate_to<'a>(
 #[cycle(evaluate)]
 fn operate_on<'a>(
     machine: &mut Machine<'a>,
-    program: Program<'a>,
+    program: &Program<'a>,
     op: BinaryOp,
     x: Value,
     a: &'a TExpr,
     b: &'a TExpr,
     depth: u32,
 ) -> Result<(), Stop>
-    requires laid { IsLaid program.typed.now program.layouts.now }
+    requires laid { IsLaid program.now.typed.now program.now.layouts.now }
     requires normal { machine.old.flow ≡ Normal }
-    requires known { (n : ℕ) → Knows program.typed.now n machine.old
+    requires known { (n : ℕ) → Knows program.now.typed.now n machine.old
         (λ c s. IsValue c a.now s (Some x)) }
-    ensures { (t : TypeTree) (n : ℕ) → IsStep program.entry.typed.now n result machine.old machine.new
-        (expr_task_run program.entry.typed.now n
+    ensures { (t : TypeTree) (n : ℕ) → IsStep program.now.typed.now n result machine.old machine.new
+        (expr_task_run program.now.typed.now n
         (task.evaluate (expr t (binary op a.now b.now)))) }
 {
     match known(machine, program, b) {
@@ -396,15 +403,15 @@ fn operate_on<'a>(
 #[cycle(evaluate)]
 fn call_to<'a>(
     machine: &mut Machine<'a>,
-    program: Program<'a>,
+    program: &Program<'a>,
     f: u32,
     es: &'a [TExpr],
     depth: u32,
 ) -> Result<(), Stop>
-    requires laid { IsLaid program.typed.now program.layouts.now }
+    requires laid { IsLaid program.now.typed.now program.now.layouts.now }
     requires normal { machine.old.flow ≡ Normal }
-    ensures { (t : TypeTree) (n : ℕ) → IsStep program.entry.typed.now n result machine.old machine.new
-        (expr_task_run program.entry.typed.now n
+    ensures { (t : TypeTree) (n : ℕ) → IsStep program.now.typed.now n result machine.old machine.new
+        (expr_task_run program.now.typed.now n
         (task.evaluate (expr t (call f (exprs_of es.now))))) }
 {
     machine
@@ -417,14 +424,14 @@ fn call_to<'a>(
 #[cycle(evaluate)]
 fn pass_to<'a>(
     machine: &mut Machine<'a>,
-    program: Program<'a>,
+    program: &Program<'a>,
     es: &'a [TExpr],
     depth: u32,
 ) -> Result<(), Stop>
-    requires laid { IsLaid program.typed.now program.layouts.now }
+    requires laid { IsLaid program.now.typed.now program.now.layouts.now }
     requires normal { machine.old.flow ≡ Normal }
-    ensures { (n : ℕ) → IsStep program.entry.typed.now n result machine.old machine.new
-        (expr_task_run program.entry.typed.now n (task.pass_each (exprs_of es.now))) }
+    ensures { (n : ℕ) → IsStep program.now.typed.now n result machine.old machine.new
+        (expr_task_run program.now.typed.now n (task.pass_each (exprs_of es.now))) }
 {
     match es.split_first() {
         Some((e, rest)) => pass_first(machine, program, e, rest, depth),
@@ -436,15 +443,15 @@ fn pass_to<'a>(
 #[cycle(evaluate)]
 fn pass_first<'a>(
     machine: &mut Machine<'a>,
-    program: Program<'a>,
+    program: &Program<'a>,
     e: &'a TExpr,
     rest: &'a [TExpr],
     depth: u32,
 ) -> Result<(), Stop>
-    requires laid { IsLaid program.typed.now program.layouts.now }
+    requires laid { IsLaid program.now.typed.now program.now.layouts.now }
     requires normal { machine.old.flow ≡ Normal }
-    ensures { (n : ℕ) → IsStep program.entry.typed.now n result machine.old machine.new
-        (passed_then program.entry.typed.now n e.now (exprs_of rest.now)) }
+    ensures { (n : ℕ) → IsStep program.now.typed.now n result machine.old machine.new
+        (passed_then program.now.typed.now n e.now (exprs_of rest.now)) }
 {
     match known(machine, program, e) {
         Some(v) => pass_value(machine, program, v, e, rest, depth),
@@ -456,18 +463,18 @@ fn pass_first<'a>(
 #[cycle(evaluate)]
 fn pass_value<'a>(
     machine: &mut Machine<'a>,
-    program: Program<'a>,
+    program: &Program<'a>,
     v: Value,
     e: &TExpr,
     rest: &'a [TExpr],
     depth: u32,
 ) -> Result<(), Stop>
-    requires laid { IsLaid program.typed.now program.layouts.now }
+    requires laid { IsLaid program.now.typed.now program.now.layouts.now }
     requires normal { machine.old.flow ≡ Normal }
-    requires known { (n : ℕ) → Knows program.typed.now n machine.old
+    requires known { (n : ℕ) → Knows program.now.typed.now n machine.old
         (λ c s. IsValue c e.now s (Some v)) }
-    ensures { (n : ℕ) → IsStep program.entry.typed.now n result machine.old machine.new
-        (passed_then program.entry.typed.now n e.now (exprs_of rest.now)) }
+    ensures { (n : ℕ) → IsStep program.now.typed.now n result machine.old machine.new
+        (passed_then program.now.typed.now n e.now (exprs_of rest.now)) }
 {
     let Some(w) = used(v) else {
         return Err(Stop::Undefined);
@@ -483,15 +490,15 @@ fn pass_value<'a>(
 #[cycle(evaluate)]
 fn pass_later<'a>(
     machine: &mut Machine<'a>,
-    program: Program<'a>,
+    program: &Program<'a>,
     e: &'a TExpr,
     rest: &'a [TExpr],
     depth: u32,
 ) -> Result<(), Stop>
-    requires laid { IsLaid program.typed.now program.layouts.now }
+    requires laid { IsLaid program.now.typed.now program.now.layouts.now }
     requires normal { machine.old.flow ≡ Normal }
-    ensures { (n : ℕ) → IsStep program.entry.typed.now n result machine.old machine.new
-        (passed_then program.entry.typed.now n e.now (exprs_of rest.now)) }
+    ensures { (n : ℕ) → IsStep program.now.typed.now n result machine.old machine.new
+        (passed_then program.now.typed.now n e.now (exprs_of rest.now)) }
 {
     if rest.is_empty() {
         return pass_one(machine, program, e, depth);
@@ -504,14 +511,14 @@ fn pass_later<'a>(
 #[cycle(evaluate)]
 fn pass_one<'a>(
     machine: &mut Machine<'a>,
-    program: Program<'a>,
+    program: &Program<'a>,
     e: &'a TExpr,
     depth: u32,
 ) -> Result<(), Stop>
-    requires laid { IsLaid program.typed.now program.layouts.now }
+    requires laid { IsLaid program.now.typed.now program.now.layouts.now }
     requires normal { machine.old.flow ≡ Normal }
-    ensures { (n : ℕ) → IsStep program.entry.typed.now n result machine.old machine.new
-        (passed_run program.entry.typed.now n e.now) }
+    ensures { (n : ℕ) → IsStep program.now.typed.now n result machine.old machine.new
+        (passed_run program.now.typed.now n e.now) }
 {
     machine.tasks.push(Task::OfExpr(ExprTask::UseIt))?;
     unknown_to(machine, program, e, depth)
@@ -521,14 +528,14 @@ fn pass_one<'a>(
 #[cycle(evaluate)]
 fn locate_to<'a>(
     machine: &mut Machine<'a>,
-    program: Program<'a>,
+    program: &Program<'a>,
     q: &'a TPlace,
     depth: u32,
 ) -> Result<(), Stop>
-    requires laid { IsLaid program.typed.now program.layouts.now }
+    requires laid { IsLaid program.now.typed.now program.now.layouts.now }
     requires normal { machine.old.flow ≡ Normal }
-    ensures { (n : ℕ) → IsStep program.entry.typed.now n result machine.old machine.new
-        (expr_task_run program.entry.typed.now n (task.locate q.now)) }
+    ensures { (n : ℕ) → IsStep program.now.typed.now n result machine.old machine.new
+        (expr_task_run program.now.typed.now n (task.locate q.now)) }
 {
     match known_address(machine, program, q) {
         Some(at) => give_value(machine, at),
@@ -540,14 +547,14 @@ fn locate_to<'a>(
 #[cycle(evaluate)]
 fn find_to<'a>(
     machine: &mut Machine<'a>,
-    program: Program<'a>,
+    program: &Program<'a>,
     q: &'a TPlace,
     depth: u32,
 ) -> Result<(), Stop>
-    requires laid { IsLaid program.typed.now program.layouts.now }
+    requires laid { IsLaid program.now.typed.now program.now.layouts.now }
     requires normal { machine.old.flow ≡ Normal }
-    ensures { (n : ℕ) → IsStep program.entry.typed.now n result machine.old machine.new
-        (expr_task_run program.entry.typed.now n (task.locate q.now)) }
+    ensures { (n : ℕ) → IsStep program.now.typed.now n result machine.old machine.new
+        (expr_task_run program.now.typed.now n (task.locate q.now)) }
 {
     if depth == 0 {
         return find(machine, q);
@@ -581,23 +588,23 @@ fn find<'a>(machine: &mut Machine<'a>, q: &'a TPlace) -> Result<(), Stop>
 #[cycle(evaluate)]
 fn read_to<'a>(
     machine: &mut Machine<'a>,
-    program: Program<'a>,
+    program: &Program<'a>,
     e: &'a TExpr,
     t: &'a CType,
     p: &'a TPlace,
     depth: u32,
 ) -> Result<(), Stop>
-    requires laid { IsLaid program.typed.now program.layouts.now }
+    requires laid { IsLaid program.now.typed.now program.now.layouts.now }
     requires normal { machine.old.flow ≡ Normal }
     requires is { e.now ≡ expr t.now (read p.now) }
-    ensures { (n : ℕ) → IsStep program.entry.typed.now n result machine.old machine.new
-        (expr_task_run program.entry.typed.now n (task.evaluate e.now)) }
+    ensures { (n : ℕ) → IsStep program.now.typed.now n result machine.old machine.new
+        (expr_task_run program.now.typed.now n (task.evaluate e.now)) }
 {
     match slot_of(machine, p) {
         Some(_) => expand(machine, e),
         None => {
             machine.tasks.push(Task::OfExpr(ExprTask::LoadFrom(t)))?;
-            locate_to(machine, program, p, depth)
+            find_to(machine, program, p, depth)
         }
     }
 }
@@ -606,16 +613,16 @@ fn read_to<'a>(
 #[cycle(evaluate)]
 fn assign_to<'a>(
     machine: &mut Machine<'a>,
-    program: Program<'a>,
+    program: &Program<'a>,
     t: &'a CType,
     p: &'a TPlace,
     a: &'a TExpr,
     depth: u32,
 ) -> Result<(), Stop>
-    requires laid { IsLaid program.typed.now program.layouts.now }
+    requires laid { IsLaid program.now.typed.now program.now.layouts.now }
     requires normal { machine.old.flow ≡ Normal }
-    ensures { (n : ℕ) → IsStep program.entry.typed.now n result machine.old machine.new
-        (expr_task_run program.entry.typed.now n
+    ensures { (n : ℕ) → IsStep program.now.typed.now n result machine.old machine.new
+        (expr_task_run program.now.typed.now n
         (task.evaluate (expr t.now (assign p.now a.now)))) }
 {
     match slot_of(machine, p) {
@@ -631,16 +638,16 @@ fn assign_to<'a>(
 #[cycle(evaluate)]
 fn store_to<'a>(
     machine: &mut Machine<'a>,
-    program: Program<'a>,
+    program: &Program<'a>,
     t: &'a CType,
     p: &'a TPlace,
     a: &'a TExpr,
     depth: u32,
 ) -> Result<(), Stop>
-    requires laid { IsLaid program.typed.now program.layouts.now }
+    requires laid { IsLaid program.now.typed.now program.now.layouts.now }
     requires normal { machine.old.flow ≡ Normal }
-    ensures { (n : ℕ) → IsStep program.entry.typed.now n result machine.old machine.new
-        (tasks_do program.entry.typed.now n (of_expr (task.store_at t.now)
+    ensures { (n : ℕ) → IsStep program.now.typed.now n result machine.old machine.new
+        (tasks_do program.now.typed.now n (of_expr (task.store_at t.now)
         ∷ of_expr (task.evaluate a.now) ∷ of_expr (task.locate p.now) ∷ [])) }
 {
     machine.tasks.push(Task::OfExpr(ExprTask::StoreAt(t)))?;
@@ -659,16 +666,16 @@ fn store_to<'a>(
 // `++` or `--`.
 fn increment<'a>(
     machine: &mut Machine<'a>,
-    program: Program<'a>,
+    program: &Program<'a>,
     e: &'a TExpr,
     step: IncDec,
     p: &'a TPlace,
 ) -> Result<(), Stop>
-    requires laid { IsLaid program.typed.now program.layouts.now }
+    requires laid { IsLaid program.now.typed.now program.now.layouts.now }
     requires normal { machine.old.flow ≡ Normal }
     requires is { e.now ≡ expr (type_of e.now) (inc_dec step p.now) }
-    ensures { (n : ℕ) → IsStep program.entry.typed.now n result machine.old machine.new
-        (expr_task_run program.entry.typed.now n (task.evaluate e.now)) }
+    ensures { (n : ℕ) → IsStep program.now.typed.now n result machine.old machine.new
+        (expr_task_run program.now.typed.now n (task.evaluate e.now)) }
 {
     match known_written(machine, program, e) {
         Some(w) => {
@@ -682,15 +689,15 @@ fn increment<'a>(
 // The same, where it does not assign a known number to a variable.
 fn increment_more<'a>(
     machine: &mut Machine<'a>,
-    program: Program<'a>,
+    program: &Program<'a>,
     t: &'a CType,
     step: IncDec,
     p: &'a TPlace,
 ) -> Result<(), Stop>
-    requires laid { IsLaid program.typed.now program.layouts.now }
+    requires laid { IsLaid program.now.typed.now program.now.layouts.now }
     requires normal { machine.old.flow ≡ Normal }
-    ensures { (n : ℕ) → IsStep program.entry.typed.now n result machine.old machine.new
-        (expr_task_run program.entry.typed.now n (task.evaluate (expr t.now (inc_dec step p.now)))) }
+    ensures { (n : ℕ) → IsStep program.now.typed.now n result machine.old machine.new
+        (expr_task_run program.now.typed.now n (task.evaluate (expr t.now (inc_dec step p.now)))) }
 {
     match slot_of(machine, p) {
         Some(k) => increment_slot(machine, t, step, p, k),
@@ -721,15 +728,15 @@ fn increment_slot<'a>(
 // The same of an object.
 fn increment_at<'a>(
     machine: &mut Machine<'a>,
-    program: Program<'a>,
+    program: &Program<'a>,
     t: &'a CType,
     step: IncDec,
     p: &'a TPlace,
 ) -> Result<(), Stop>
-    requires laid { IsLaid program.typed.now program.layouts.now }
+    requires laid { IsLaid program.now.typed.now program.now.layouts.now }
     requires normal { machine.old.flow ≡ Normal }
-    ensures { (n : ℕ) → IsStep program.entry.typed.now n result machine.old machine.new
-        (tasks_do program.entry.typed.now n (of_expr (task.step_at step t.now)
+    ensures { (n : ℕ) → IsStep program.now.typed.now n result machine.old machine.new
+        (tasks_do program.now.typed.now n (of_expr (task.step_at step t.now)
         ∷ of_expr (task.load_at t.now) ∷ of_expr (task.locate p.now) ∷ [])) }
 {
     match known_address(machine, program, p) {
@@ -746,18 +753,18 @@ fn increment_at<'a>(
 // The same, at this address.
 fn increment_known<'a>(
     machine: &mut Machine<'a>,
-    program: Program<'a>,
+    program: &Program<'a>,
     at: Value,
     t: &'a CType,
     step: IncDec,
     p: &'a TPlace,
 ) -> Result<(), Stop>
-    requires laid { IsLaid program.typed.now program.layouts.now }
+    requires laid { IsLaid program.now.typed.now program.now.layouts.now }
     requires normal { machine.old.flow ≡ Normal }
-    requires known { (n : ℕ) → Knows program.typed.now n machine.old
+    requires known { (n : ℕ) → Knows program.now.typed.now n machine.old
         (λ c s. IsAddress c p.now s (Some at)) }
-    ensures { (n : ℕ) → IsStep program.entry.typed.now n result machine.old machine.new
-        (tasks_do program.entry.typed.now n (of_expr (task.step_at step t.now)
+    ensures { (n : ℕ) → IsStep program.now.typed.now n result machine.old machine.new
+        (tasks_do program.now.typed.now n (of_expr (task.step_at step t.now)
         ∷ of_expr (task.load_at t.now) ∷ of_expr (task.locate p.now) ∷ [])) }
 {
     let Some(old) = loaded(&machine.store, t, at) else {

@@ -10,7 +10,7 @@ use Rattle.c_interp.proofs.perform.perform_more.Goals as goal
 
 pub returns-in-Some-known : goal.returns-in-Some-known
 returns-in-Some-known c = λ n.
-    let p = c.args.program.typed.now in
+    let p = c.args.program.now.typed.now in
     let t = c.deref-in-Some-known.result.now in
     let q = c.in-Assign.p in
     let a = c.deref.result.now in

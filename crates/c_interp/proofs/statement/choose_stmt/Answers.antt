@@ -8,7 +8,7 @@ use Rattle.c_interp.proofs.statement.choose_stmt.Goals as goal
 
 pub returns-in-Some-true : goal.returns-in-Some-true
 returns-in-Some-true c = λ n.
-    let p = c.args.program.typed.now in
+    let p = c.args.program.now.typed.now in
     let d = c.in-Some-true.field-0 in
     let a = c.args.body.now in
     let b = c.args.otherwise.now in
@@ -16,7 +16,7 @@ returns-in-Some-true c = λ n.
 
 pub returns-in-Some-false : goal.returns-in-Some-false
 returns-in-Some-false c = λ n.
-    let p = c.args.program.typed.now in
+    let p = c.args.program.now.typed.now in
     let d = c.in-Some-false.field-0 in
     let a = c.args.body.now in
     let b = c.args.otherwise.now in
@@ -24,6 +24,6 @@ returns-in-Some-false c = λ n.
 
 pub returns-in_ok-push-in-None : goal.returns-in_ok-push-in-None
 returns-in_ok-push-in-None c = λ n.
-    let p = c.args.program.typed.now in
+    let p = c.args.program.now.typed.now in
     if_put p n c.evaluate.result c.args.machine.now c.evaluate.new.machine c.args.a.now c.args.e.now c.args.body.now c.args.otherwise.now c.requires.is
     (put_then p n c.evaluate.result c.args.machine.now c.evaluate.new.machine c.push.new.self (OfStmt (OnStmt Branch c.args.a)) (expr_task_run p n (task.evaluate c.args.e.now)) c.in_ok-push-in-None.ensures.items (c.evaluate.ensures n))

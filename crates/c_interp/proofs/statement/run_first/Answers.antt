@@ -9,13 +9,13 @@ use Rattle.c_interp.proofs.statement.run_first.Goals as goal
 
 pub returns-then-is_empty : goal.returns-then-is_empty
 returns-then-is_empty c =
-    let p = c.args.program.typed.now in
-    let n = c.args.program.bound in
+    let p = c.args.program.now.typed.now in
+    let n = c.args.program.now.bound in
     last_item p n c.run_stmt.result c.args.machine.now c.run_stmt.new.machine c.args.a.now (items_of c.args.rest.now)
     (none-left c.args.rest.now (is-zero _ (sym c.is_empty.ensures ∙ c.if-is_empty.true))) c.run_stmt.ensures
 
 pub returns : goal.returns
 returns c =
-    let p = c.args.program.typed.now in
-    let n = c.args.program.bound in
+    let p = c.args.program.now.typed.now in
+    let n = c.args.program.now.bound in
     put_then p n c.run_stmt-2.result c.args.machine.now c.run_stmt-2.new.machine c.push.new.self (OfStmt (RunItems c.args.rest)) (stmt_task_run p n (stmt.run_stmt c.args.a.now)) c.in_ok-push.ensures.items c.run_stmt-2.ensures
