@@ -8,6 +8,7 @@ ghost use Rattle.c_mean.specs.Expressions.{value_or_none};
 ghost use Rattle.c_mean.specs.Run.{params_stored, params_in_scope, value_at_end};
 ghost use Rattle.c_interp_store.specs.Holding.{Opened, Holds};
 ghost use Rattle.c_interp_expand.specs.TaskViews.{slots_of, flow_of};
+ghost use Rattle.c_interp_def.specs.CallLaws.{call_tasks};
 ghost use Rattle.c_interp_def.specs.Configurations.{variables_of, object_sizes};
 ghost use Rattle.c_interp_def.specs.declared.task.Flow.TheVariants.{Normal};
 ghost use Rattle.c_interp_def.specs.ExprTasks as task;
@@ -15,8 +16,8 @@ ghost use Rattle.c_interp_def.specs.ExprTasks.{expr_task_run};
 ghost use Rattle.c_interp_def.specs.StmtTasks as stmt;
 ghost use Rattle.c_interp_def.specs.StmtTasks.{handler_run};
 ghost use Rattle.c_interp_layout.specs.Laid.{IsLaid};
-ghost use Rattle.c_interp.specs.Steps.{IsStep, IsStored};
-ghost use Rattle.c_interp.specs.Calls.{IsFrame, IsEntered};
+ghost use Rattle.c_interp.specs.Steps.{IsStep, IsStored, tasks_do};
+ghost use Rattle.c_interp.specs.Calls.{IsFrame, IsEntered, IsBegunCall, IsEnded};
 
 use crate::frame::{Active, Frame};
 use crate::machine::{Machine, Program};
@@ -45,8 +46,8 @@ pub(crate) fn call<'a>(
 ) -> Result<(), Stop>
     requires laid { IsLaid program.now.typed.now program.now.layouts.now }
     requires normal { machine.old.flow ≡ Normal }
-    ensures { (n : ℕ) → IsStep program.now.typed.now n result machine.old machine.new
-        (expr_task_run program.now.typed.now n (task.call function count)) }
+    ensures { IsStep program.now.typed.now program.now.bound result machine.old machine.new
+        (expr_task_run program.now.typed.now program.now.bound (task.call function count)) }
 {
     if machine.frame.depth == 0 {
         return Err(Stop::Cut);
@@ -61,7 +62,7 @@ pub(crate) fn call<'a>(
     }
 }
 
-// The call begins, and its body; where that has ended at once, so does the call.
+// The call begins.
 fn begin_call<'a>(
     machine: &mut Machine<'a>,
     program: &Program<'a>,
@@ -69,15 +70,37 @@ fn begin_call<'a>(
     f: &'a TFunction,
 ) -> Result<(), Stop>
     requires laid { IsLaid program.now.typed.now program.now.layouts.now }
+    ensures { IsBegunCall program.now.typed.now program.now.bound active f.now machine.old machine.new
+        result }
 {
-    enter(machine, active)?;
-    run_items(machine, program, &f.body)?;
-    end_at_once(machine, program)
+    match enter(machine, active) {
+        Ok(()) => run_body(machine, program, f),
+        Err(stop) => Err(stop),
+    }
+}
+
+// The body of the function that is called. Where it has ended at once, so does the call.
+fn run_body<'a>(
+    machine: &mut Machine<'a>,
+    program: &Program<'a>,
+    f: &'a TFunction,
+) -> Result<(), Stop>
+    requires laid { IsLaid program.now.typed.now program.now.layouts.now }
+    requires normal { machine.old.flow ≡ Normal }
+    ensures { IsStep program.now.typed.now program.now.bound result machine.old machine.new
+        (tasks_do program.now.typed.now program.now.bound (call_tasks f.now)) }
+{
+    machine.tasks.push(Task::Handler(Handler::EndCall))?;
+    match run_items(machine, program, &f.body) {
+        Ok(()) => end_at_once(machine, program),
+        Err(stop) => Err(stop),
+    }
 }
 
 // The newest call ends, where that is the next task.
 fn end_at_once<'a>(machine: &mut Machine<'a>, program: &Program<'a>) -> Result<(), Stop>
     requires laid { IsLaid program.now.typed.now program.now.layouts.now }
+    ensures { IsEnded program.now.typed.now program.now.bound machine.old machine.new result }
 {
     match machine.tasks.last() {
         Some(Task::Handler(Handler::EndCall)) => {
@@ -198,14 +221,14 @@ fn argument_at(arguments: &[Value], i: usize) -> Value
     }
 }
 
-// The call begins, and its caller waits.
+// The machine has the frame of the call, and its caller waits.
 fn enter<'a>(machine: &mut Machine<'a>, active: Active) -> Result<(), Stop>
     ensures { IsEntered active machine.old machine.new result }
 {
     let frame = replace(&mut machine.frame, active.frame);
     let slots = replace(&mut machine.slots, active.slots);
     machine.callers.push(Active { frame, slots })?;
-    machine.tasks.push(Task::Handler(Handler::EndCall))?;
+    machine.flow = Flow::Normal;
     Ok(())
 }
 

@@ -291,7 +291,8 @@ fn or_to<'a>(
     }
 }
 
-// An expression, which is looked into so deep, and of which the truth becomes an operand.
+// An expression that is not known at once, which is looked into so deep, and of which the truth
+// becomes an operand; that of `!` is its value.
 #[cycle(evaluate)]
 fn test_to<'a>(
     machine: &mut Machine<'a>,
@@ -304,15 +305,13 @@ fn test_to<'a>(
     ensures { (n : ℕ) → IsStep program.now.typed.now n result machine.old machine.new
         (tested_run program.now.typed.now n b.now) }
 {
-    if !is_not(b) {
-        machine.tasks.push(test_task(b))?;
+    match &b.form {
+        ExprForm::Unary(UnaryOp::LogicalNot, _) => unknown_to(machine, program, b, depth),
+        _ => {
+            machine.tasks.push(test_task(b))?;
+            unknown_to(machine, program, b, depth)
+        }
     }
-    unknown_to(machine, program, b, depth)
-}
-
-// Whether an expression is `!`, whose value is its truth.
-fn is_not(b: &TExpr) -> bool {
-    matches!(&b.form, ExprForm::Unary(UnaryOp::LogicalNot, _))
 }
 
 // `?:`, of which the condition is looked into so deep, and the operand that is chosen.

@@ -2,7 +2,7 @@
 
 ghost use Rattle.std.specs.Prelude.{◌≡◌, ◌∷◌, [], ℕ, Some};
 ghost use Rattle.val_core.specs.Answers.{then_on};
-ghost use Rattle.c_typed.specs.Typed.{ProgramTree, OptionalExpr, some_expr, declare_then, if_else};
+ghost use Rattle.c_typed.specs.Typed.{ProgramTree, OptionalExpr, some_expr, StmtTree, declare_then, if_else};
 ghost use Rattle.c_typed.specs.StmtViews.{items_of, initial_of, declaration_of};
 ghost use Rattle.c_interp_def.specs.declared.task.Flow.TheVariants.{Normal};
 ghost use Rattle.c_interp_def.specs.StmtTasks as stmt;
@@ -12,7 +12,7 @@ ghost use Rattle.c_interp_def.specs.ExprTasks.{expr_task_run};
 ghost use Rattle.c_interp_layout.specs.Laid.{IsLaid};
 ghost use Rattle.c_interp_answer.specs.Answered.{IsValue};
 ghost use Rattle.c_interp.specs.Known.{Knows, while_loop};
-ghost use Rattle.c_interp.specs.Steps.{IsStep, tasks_do, turns_do, declared_do, is_loop};
+ghost use Rattle.c_interp.specs.Steps.{IsStep, tasks_do, turns_do, loop_then, declared_do, is_loop};
 
 use crate::begin::is_value;
 use crate::evaluate::evaluate_unknown;
@@ -251,19 +251,38 @@ fn first_to<'a>(
     match &a.form {
         StmtForm::Null => items_to(machine, program, rest, depth),
         StmtForm::Value(e) => value_to(machine, program, e, rest, depth),
-        StmtForm::IfElse(e, then, otherwise) if depth > 0 => {
-            if_to(machine, program, a, e, then, otherwise, rest, depth - 1)
+        StmtForm::IfElse(e, then, otherwise) => {
+            if_to(machine, program, a, e, then, otherwise, rest, depth)
         }
         StmtForm::Loop {
-            condition: Some(e),
+            condition,
             body,
             ..
-        } => while_then(machine, program, a, e, body, rest, depth),
-        _ => {
-            machine.tasks.push(Task::OfStmt(StmtTask::RunItems(rest)))?;
-            run_to(machine, program, a, depth)
-        }
+        } => match condition {
+            Some(e) => while_then(machine, program, a, e, body, rest, depth),
+            None => run_then(machine, program, a, rest, depth),
+        },
+        _ => run_then(machine, program, a, rest, depth),
     }
+}
+
+// The same, where the items wait.
+#[cycle(run)]
+fn run_then<'a>(
+    machine: &mut Machine<'a>,
+    program: &Program<'a>,
+    a: &'a TStmt,
+    rest: &'a [Item],
+    depth: u32,
+) -> Result<(), Stop>
+    requires laid { IsLaid program.now.typed.now program.now.layouts.now }
+    requires normal { machine.old.flow ≡ Normal }
+    ensures { IsStep program.now.typed.now program.now.bound result machine.old machine.new
+        (tasks_do program.now.typed.now program.now.bound (of_stmt (stmt.run_items (items_of rest.now))
+        ∷ of_stmt (stmt.run_stmt a.now) ∷ [])) }
+{
+    machine.tasks.push(Task::OfStmt(StmtTask::RunItems(rest)))?;
+    run_to(machine, program, a, depth)
 }
 
 // An `if` statement, and the items after it.
@@ -285,14 +304,33 @@ fn if_to<'a>(
         (tasks_do program.now.typed.now program.now.bound (of_stmt (stmt.run_items (items_of rest.now))
         ∷ of_stmt (stmt.run_stmt a.now) ∷ [])) }
 {
-    match known_truth(machine, program, e) {
-        Some(true) => first_to(machine, program, body, rest, depth),
-        Some(false) => first_to(machine, program, otherwise, rest, depth),
-        None => {
-            machine.tasks.push(Task::OfStmt(StmtTask::RunItems(rest)))?;
-            branch_later(machine, program, a, e)
-        }
+    if depth == 0 {
+        return run_then(machine, program, a, rest, depth);
     }
+    match known_truth(machine, program, e) {
+        Some(true) => first_to(machine, program, body, rest, depth - 1),
+        Some(false) => first_to(machine, program, otherwise, rest, depth - 1),
+        None => branch_then(machine, program, a, e, rest),
+    }
+}
+
+// The same, where the condition is evaluated first.
+fn branch_then<'a>(
+    machine: &mut Machine<'a>,
+    program: &Program<'a>,
+    a: &'a TStmt,
+    e: &'a TExpr,
+    rest: &'a [Item],
+) -> Result<(), Stop>
+    requires laid { IsLaid program.now.typed.now program.now.layouts.now }
+    requires normal { machine.old.flow ≡ Normal }
+    ensures { (body otherwise : StmtTree) → a.now ≡ if_else e.now body otherwise →
+        IsStep program.now.typed.now program.now.bound result machine.old machine.new
+        (tasks_do program.now.typed.now program.now.bound (of_stmt (stmt.run_items (items_of rest.now))
+        ∷ of_stmt (stmt.run_stmt a.now) ∷ [])) }
+{
+    machine.tasks.push(Task::OfStmt(StmtTask::RunItems(rest)))?;
+    branch_later(machine, program, a, e)
 }
 
 // A loop with this condition, and the items after it.
@@ -314,18 +352,52 @@ fn while_then<'a>(
         ∷ of_stmt (stmt.run_stmt a.now) ∷ [])) }
 {
     match known_truth(machine, program, e) {
-        Some(true) => {
-            machine.tasks.push(Task::OfStmt(StmtTask::RunItems(rest)))?;
-            machine.tasks.push(Task::Handler(Handler::EndSwitch))?;
-            turn_to(machine, program, program.bound, a, body, depth)
-        }
+        Some(true) => turn_then(machine, program, a, body, rest, depth),
         Some(false) => items_to(machine, program, rest, depth),
-        None => {
-            machine.tasks.push(Task::OfStmt(StmtTask::RunItems(rest)))?;
-            machine.tasks.push(Task::Handler(Handler::EndSwitch))?;
-            ask_again(machine, program, program.bound, a, e)
-        }
+        None => ask_then(machine, program, a, e, rest),
     }
+}
+
+// Its first turn, after which the items wait.
+#[cycle(run)]
+fn turn_then<'a>(
+    machine: &mut Machine<'a>,
+    program: &Program<'a>,
+    a: &'a TStmt,
+    body: &'a TStmt,
+    rest: &'a [Item],
+    depth: u32,
+) -> Result<(), Stop>
+    requires laid { IsLaid program.now.typed.now program.now.layouts.now }
+    requires normal { machine.old.flow ≡ Normal }
+    ensures { IsStep program.now.typed.now program.now.bound result machine.old machine.new
+        (loop_then program.now.typed.now program.now.bound (items_of rest.now)
+        (turns_do program.now.typed.now program.now.bound
+        (turn_tasks program.now.bound a.now body.now))) }
+{
+    machine.tasks.push(Task::OfStmt(StmtTask::RunItems(rest)))?;
+    machine.tasks.push(Task::Handler(Handler::EndSwitch))?;
+    turn_to(machine, program, program.bound, a, body, depth)
+}
+
+// The same, where the condition is evaluated first.
+fn ask_then<'a>(
+    machine: &mut Machine<'a>,
+    program: &Program<'a>,
+    a: &'a TStmt,
+    e: &'a TExpr,
+    rest: &'a [Item],
+) -> Result<(), Stop>
+    requires laid { IsLaid program.now.typed.now program.now.layouts.now }
+    requires normal { machine.old.flow ≡ Normal }
+    ensures { IsStep program.now.typed.now program.now.bound result machine.old machine.new
+        (loop_then program.now.typed.now program.now.bound (items_of rest.now)
+        (tasks_do program.now.typed.now program.now.bound
+        (of_stmt (stmt.turn_if program.now.bound a.now) ∷ of_expr (task.evaluate e.now) ∷ []))) }
+{
+    machine.tasks.push(Task::OfStmt(StmtTask::RunItems(rest)))?;
+    machine.tasks.push(Task::Handler(Handler::EndSwitch))?;
+    ask_again(machine, program, program.bound, a, e)
 }
 
 // An expression whose value is dropped, and the items after it.

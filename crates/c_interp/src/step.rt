@@ -132,8 +132,8 @@ fn do_quiet<'a>(
     requires laid { IsLaid program.now.typed.now program.now.layouts.now }
     requires normal { machine.old.flow ≡ Normal }
     requires quiet { IsQuiet task }
-    ensures { (n : ℕ) → IsStep program.now.typed.now n result machine.old machine.new
-        (expr_task_run program.now.typed.now n (expr_task_of task.entry)) }
+    ensures { IsStep program.now.typed.now program.now.bound result machine.old machine.new
+        (expr_task_run program.now.typed.now program.now.bound (expr_task_of task.entry)) }
 {
     match task {
         ExprTask::Evaluate(e) => evaluate(machine, program, e),

@@ -3,6 +3,7 @@ use Rattle.std.specs.Prelude.{Err}
 use Rattle.c_interp.specs.declared.stop.Stop.TheVariants.{Undefined}
 use Rattle.std.proofs.Common.{rules, ◌≡◌, ◌∙◌, length, refl, sym, ap, ap₂, subst}
 use Rattle.val_core.specs.Answers.{then_on}
+use Rattle.c_typed.specs.declared.operator.UnaryOp.TheVariants as unary_op
 use Rattle.c_typed.specs.ExprViews.{form_of, place_form_of}
 use Rattle.c_typed.specs.Typed.{ExprTree, FormTree, expr, read, unary, binary, logical_and, logical_or, conditional, assign, inc_dec, call, at, member, exprs_of}
 use Rattle.c_typed.specs.WellTyped.{type_of}
@@ -16,7 +17,7 @@ use Rattle.c_interp_def.specs.StmtTasks.{of_expr, task_run}
 use Rattle.c_interp.specs.Steps.{IsStep, passed_run}
 use Rattle.c_interp.proofs.Steps.{with_ops, with_tasks}
 use Rattle.c_interp.proofs.AtOnce.{put_then, is-zero, known_step, located_step}
-use Rattle.c_interp.proofs.Unknown.{unary_put, tested_put, and_put, or_put, and_true, and_false, or_true, or_false, read_put, assign_slot, assign_put, passed_value, not_passed, at_put, member_put, located_then, type_in, place_form_in, place-whole}
+use Rattle.c_interp.proofs.Unknown.{unary_put, tested_put, not_tested, and_put, or_put, and_true, and_false, or_true, or_false, read_put, assign_slot, assign_put, passed_value, not_passed, at_put, member_put, located_then, type_in, place_form_in, place-whole}
 use Rattle.c_interp.proofs.Evaluated.{chosen_step, other_step, choose_put, operated_step, operand_step, operate_put, call_put, pass_put, pass_none, pass_last}
 use Rattle.c_interp.proofs.evaluate.+evaluate.Goals as goal
 
@@ -158,14 +159,21 @@ or_to-returns-in_ok-push-in-None m c = λ t n.
     or_put p n c.evaluate_to.result old c.evaluate_to.new.machine t c.args.a.now c.args.b.now _ c.or_task.ensures
     (put_then p n c.evaluate_to.result old c.evaluate_to.new.machine c.push.new.self c.or_task.result (expr_task_run p n (task.evaluate c.args.a.now)) c.in_ok-push-in-None.ensures.items (c.evaluate_to.ensures n))
 
-pub test_to-returns : goal.test_to-returns
-test_to-returns m c = λ n.
+pub test_to-returns-in-Unary : goal.test_to-returns-in-Unary
+test_to-returns-in-Unary m c = λ n.
+    let b = c.args.b.now in
+    let a = c.in-Unary.field-1 in
+    not_tested c.args.program.now.typed.now n c.unknown_to.result c.args.machine.now c.unknown_to.new.machine (type_of b) a b
+    (whole b (type_of b) (unary unary_op.LogicalNot a) refl (sym (ap form_in c.b.view_is) ∙ ap form_of c.in-Unary.is)) (c.unknown_to.ensures n)
+
+pub test_to-returns-in_ok-push-in_default : goal.test_to-returns-in_ok-push-in_default
+test_to-returns-in_ok-push-in_default m c = λ n.
     let p = c.args.program.now.typed.now in
-    let r = c.evaluate_to.result in
+    let r = c.unknown_to-in_default.result in
     let old = c.args.machine.now in
-    let new = c.evaluate_to.new.machine in
+    let new = c.unknown_to-in_default.new.machine in
     tested_put p n r old new (type_of c.args.b.now) c.args.b.now _ c.test_task.ensures
-    (put_then p n r old new c.push.new.self c.test_task.result (expr_task_run p n (task.evaluate c.args.b.now)) c.in_ok-push.ensures.items (c.evaluate_to.ensures n))
+    (put_then p n r old new c.push.new.self c.test_task.result (expr_task_run p n (task.evaluate c.args.b.now)) c.in_ok-push-in_default.ensures.items (c.unknown_to-in_default.ensures n))
 
 -- ---- `?:`
 
@@ -310,9 +318,9 @@ pub read_to-returns-in_ok-push-in-None : goal.read_to-returns-in_ok-push-in-None
 read_to-returns-in_ok-push-in-None m c = λ n.
     let p = c.args.program.now.typed.now in
     let old = c.args.machine.now in
-    let new = c.locate_to.new.machine in
-    read_put p n c.locate_to.result old new c.args.t.now c.args.e.now c.args.p.now c.requires.is c.in-None.ensures
-    (put_then p n c.locate_to.result old new c.push.new.self (OfExpr (LoadFrom c.args.t)) (expr_task_run p n (task.locate c.args.p.now)) c.in_ok-push-in-None.ensures.items (c.locate_to.ensures n))
+    let new = c.find_to.new.machine in
+    read_put p n c.find_to.result old new c.args.t.now c.args.e.now c.args.p.now c.requires.is c.in-None.ensures
+    (put_then p n c.find_to.result old new c.push.new.self (OfExpr (LoadFrom c.args.t)) (expr_task_run p n (task.locate c.args.p.now)) c.in_ok-push-in-None.ensures.items (c.find_to.ensures n))
 
 pub assign_to-returns-in_ok-push-in-Some : goal.assign_to-returns-in_ok-push-in-Some
 assign_to-returns-in_ok-push-in-Some m c = λ n.

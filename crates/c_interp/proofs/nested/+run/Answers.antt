@@ -8,13 +8,18 @@ use Rattle.c_interp_def.specs.declared.task.StmtTask.TheVariants.{RunItems}
 use Rattle.c_interp_def.specs.declared.task.Slot.TheVariants.{Holds}
 use Rattle.c_interp_def.specs.declared.task.Task.TheVariants.{OfStmt, Handler}
 use Rattle.c_interp_def.specs.StmtTasks as stmt
-use Rattle.c_interp_def.specs.StmtTasks.{of_stmt, handler, optional_tasks, turn_tasks, stmt_task_run}
+use Rattle.val_core.specs.Answers.{then_on}
+use Rattle.c_mean.specs.Statements.{normal}
+use Rattle.c_interp_def.specs.Configurations.{reaches}
+use Rattle.c_interp_def.specs.ExprTasks as task
+use Rattle.c_interp_def.specs.StmtTasks.{of_expr, of_stmt, handler, optional_tasks, turn_tasks, stmt_task_run, task_run}
+use Rattle.c_interp.proofs.Steps.{with_tasks}
 use Rattle.c_interp.specs.Machines.{config_of}
 use Rattle.c_interp.specs.Steps.{IsStep, tasks_do, turns_do}
 use Rattle.c_interp.proofs.Steps.{end-cut}
-use Rattle.c_interp.proofs.AtOnce.{put_then, if_step, if_put, turn_step, while_true, while_false, while_put, no_items_step, last_item, first_item, none-left, is-zero, picks-true, picks-false, truth-is}
+use Rattle.c_interp.proofs.AtOnce.{put_then, if_step, if_put, turn_step, while_true, while_false, while_put, turns-known, turns-asked, no_items_step, last_item, first_item, none-left, is-zero, picks-true, picks-false, truth-is}
 use Rattle.c_interp.proofs.Performed.{is_moved, moved_then, not_performed, performed_flow, stopped_then}
-use Rattle.c_interp.proofs.Items.{expanded_step, value_items, declared_items, declared_step, initial_step, begun_step, not_begun, turns_step}
+use Rattle.c_interp.proofs.Items.{expanded_step, value_items, null_items, if_items, loop_items, declared_items, declared_step, initial_step, begun_step, not_begun, turns_step}
 use Rattle.c_interp.proofs.nested.+run.Goals as goal
 
 -- ---- by the form of the statement
@@ -149,12 +154,92 @@ first_to-returns-in-Value m c =
     value_items c.args.program.now.typed.now c.args.program.now.bound c.value_to.result c.args.machine.now c.value_to.new.machine c.args.a.now c.in-Value.e (items_of c.args.rest.now)
     (sym c.a.view_is ∙ ap stmt_of c.in-Value.is) c.value_to.ensures
 
-pub first_to-returns-in_ok-push-in_default : goal.first_to-returns-in_ok-push-in_default
-first_to-returns-in_ok-push-in_default m c =
+pub run_then-returns : goal.run_then-returns
+run_then-returns m c =
     let p = c.args.program.now.typed.now in
     let n = c.args.program.now.bound in
-    put_then p n c.run_to-in_default.result c.args.machine.now c.run_to-in_default.new.machine c.push.new.self (OfStmt (RunItems c.args.rest)) (stmt_task_run p n (stmt.run_stmt c.args.a.now))
-    c.in_ok-push-in_default.ensures.items c.run_to-in_default.ensures
+    put_then p n c.run_to.result c.args.machine.now c.run_to.new.machine c.push.new.self (OfStmt (RunItems c.args.rest)) (stmt_task_run p n (stmt.run_stmt c.args.a.now)) c.in_ok-push.ensures.items c.run_to.ensures
+
+pub first_to-returns-in-Null : goal.first_to-returns-in-Null
+first_to-returns-in-Null m c =
+    null_items c.args.program.now.typed.now c.args.program.now.bound c.items_to.result c.args.machine.now c.items_to.new.machine c.args.a.now (items_of c.args.rest.now)
+    (sym c.a.view_is ∙ ap stmt_of c.in-Null.is) c.items_to.ensures
+
+pub first_to-if_to-requires : goal.first_to-if_to-requires
+first_to-if_to-requires m c = (search rules, (c.requires.laid, (c.requires.normal, sym c.a.view_is ∙ ap stmt_of c.in-IfElse.is ∙ ap₂ (λ s t. tree.if_else c.in-IfElse.e s t) (sym c.deref.ensures) (sym c.deref-2.ensures))))
+
+pub first_to-returns-in-Some : goal.first_to-returns-in-Some
+first_to-returns-in-Some m c =
+    let step = optional_of c.in-Loop.step in
+    let e = c.in-Some.e in
+    c.while_then.ensures step
+    (sym c.a.view_is ∙ ap stmt_of c.in-Loop.is ∙ ap (λ d. tree.loop (optional_of d) step c.in-Loop.body.value) c.in-Some.is ∙ ap (λ z. tree.loop (tree.some_expr e) step z) (sym c.deref-in-Some.ensures))
+
+-- ---- an `if` or a loop, and then the items after it
+
+pub if_to-returns-in-Some-true : goal.if_to-returns-in-Some-true
+if_to-returns-in-Some-true m c =
+    let p = c.args.program.now.typed.now in
+    let n = c.args.program.now.bound in
+    let d = c.in-Some-true.field-0 in
+    let a = c.args.body.now in
+    let b = c.args.otherwise.now in
+    if_items p n c.first_to.result c.args.machine.now c.first_to.new.machine c.args.a.now c.args.e.now a b a (items_of c.args.rest.now) d c.requires.is (c.in-Some-true.ensures n)
+    (picks-true d a b c.in-Some-true.field-0-test) c.first_to.ensures
+
+pub if_to-returns-in-Some-false : goal.if_to-returns-in-Some-false
+if_to-returns-in-Some-false m c =
+    let p = c.args.program.now.typed.now in
+    let n = c.args.program.now.bound in
+    let d = c.in-Some-false.field-0 in
+    let a = c.args.body.now in
+    let b = c.args.otherwise.now in
+    if_items p n c.first_to-in-Some-false.result c.args.machine.now c.first_to-in-Some-false.new.machine c.args.a.now c.args.e.now a b b (items_of c.args.rest.now) d c.requires.is (c.in-Some-false.ensures n)
+    (picks-false d a b c.in-Some-false.field-0-test) c.first_to-in-Some-false.ensures
+
+pub if_to-returns-in-None : goal.if_to-returns-in-None
+if_to-returns-in-None m c = c.branch_then.ensures c.args.body.now c.args.otherwise.now c.requires.is
+
+pub while_then-returns-in-Some-true : goal.while_then-returns-in-Some-true
+while_then-returns-in-Some-true m c = λ s is.
+    let p = c.args.program.now.typed.now in
+    let n = c.args.program.now.bound in
+    let old = c.args.machine.now in
+    let l = c.args.a.now in
+    let e = c.args.e.now in
+    loop_items p n c.turn_then.result old c.turn_then.new.machine l e s c.args.body.now (items_of c.args.rest.now) (turns_do p n (turn_tasks n l c.args.body.now)) is
+    (λ k i held. turns-known p n n l e s c.args.body.now true (config_of old k i) is (truth-is p n old e _ _ c.in-Some-true.field-0-test (c.in-Some-true.ensures n) k i held)) c.turn_then.ensures
+
+pub while_then-returns-in-Some-false : goal.while_then-returns-in-Some-false
+while_then-returns-in-Some-false m c = λ s is.
+    let p = c.args.program.now.typed.now in
+    let n = c.args.program.now.bound in
+    let old = c.args.machine.now in
+    let l = c.args.a.now in
+    let e = c.args.e.now in
+    loop_items p n c.items_to.result old c.items_to.new.machine l e s c.args.body.now (items_of c.args.rest.now) (reaches normal) is
+    (λ k i held. turns-known p n n l e s c.args.body.now false (config_of old k i) is (truth-is p n old e _ _ c.in-Some-false.field-0-test (c.in-Some-false.ensures n) k i held)) c.items_to.ensures
+
+pub while_then-returns-in-None : goal.while_then-returns-in-None
+while_then-returns-in-None m c = λ s is.
+    let p = c.args.program.now.typed.now in
+    let n = c.args.program.now.bound in
+    let old = c.args.machine.now in
+    let l = c.args.a.now in
+    let e = c.args.e.now in
+    loop_items p n c.ask_then.result old c.ask_then.new.machine l e s c.args.body.now (items_of c.args.rest.now) (tasks_do p n (of_stmt (stmt.turn_if n l) ∷ of_expr (task.evaluate e) ∷ [])) is
+    (λ k i held. turns-asked p n n l e s c.args.body.now (config_of old k i) is) c.ask_then.ensures
+
+pub turn_then-returns : goal.turn_then-returns
+turn_then-returns m c =
+    let p = c.args.program.now.typed.now in
+    let n = c.args.program.now.bound in
+    let r = c.turn_to.result in
+    let old = c.args.machine.now in
+    let new = c.turn_to.new.machine in
+    let turns = turns_do p n (turn_tasks n c.args.a.now c.args.body.now) in
+    put_then p n r old new c.push.new.self (OfStmt (RunItems c.args.rest)) (λ x. then_on (turns x) (task_run p n (handler stmt.end_switch))) c.in_ok-push.ensures.items
+    (put_then p n r (with_tasks old c.push.new.self) new c.push-2.new.self (Handler EndSwitch) turns c.in_ok-push-2.ensures.items c.turn_to.ensures)
 
 -- ---- turns
 

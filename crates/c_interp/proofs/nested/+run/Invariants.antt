@@ -43,3 +43,15 @@ decreases-begin_to l = 8 * l.depth + 5
 
 abbrev pub decreases-begin_known : goal.decreases-begin_known
 decreases-begin_known l = 8 * l.depth + 4
+
+abbrev pub decreases-run_then : goal.decreases-run_then
+decreases-run_then l = 8 * l.depth + 1
+
+abbrev pub decreases-if_to : goal.decreases-if_to
+decreases-if_to l = 8 * l.depth + 2
+
+abbrev pub decreases-turn_then : goal.decreases-turn_then
+decreases-turn_then l = 8 * l.depth + 2
+
+abbrev pub decreases-while_then : goal.decreases-while_then
+decreases-while_then l = 8 * l.depth + 4

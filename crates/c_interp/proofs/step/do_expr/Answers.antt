@@ -22,4 +22,4 @@ do_quiet-requires-clause-quiet g c = is_quiet c.args.task c.in_default.not-ReadB
 
 pub returns-in_default-clause-step : goal.returns-in_default-clause-step
 returns-in_default-clause-step g c =
-    quiet_at c.args.program.now.typed.now c.args.program.now.bound c.do_quiet.result c.args.machine.now c.do_quiet.new.machine _ _ _ _ c.requires.at_end (c.do_quiet.ensures c.args.program.now.bound)
+    quiet_at c.args.program.now.typed.now c.args.program.now.bound c.do_quiet.result c.args.machine.now c.do_quiet.new.machine _ _ _ _ c.requires.at_end c.do_quiet.ensures
