@@ -1,6 +1,7 @@
 -- What is answered of an expression, by its form.
 use Rattle.std.proofs.Common.{◌≡◌, ◌∙◌, refl, sym, ap, ap₂, subst}
 use Rattle.std.specs.Prelude.{Some}
+use Rattle.c_typed.specs.declared.operator.BinaryOp.TheVariants as binary_op
 use Rattle.c_typed.specs.ExprViews.{form_of}
 use Rattle.c_typed.specs.Typed.{ExprTree, FormTree, expr, read, address, unary, binary, logical_and, logical_or, conditional}
 use Rattle.c_typed.specs.WellTyped.{type_of}
@@ -57,22 +58,22 @@ pub operator_word-returns-in-Some-true : goal.operator_word-returns-in-Some-true
 operator_word-returns-in-Some-true m c = λ calls k s sees.
     let e = c.args.e.now in
     let arm = c.in-LogicalAnd in
-    let f : FormTree = logical_and c.deref-in-LogicalAnd.result.now c.deref-in-Some-true.result.now in
+    let f : FormTree = logical_and c.deref.result.now c.deref-in-Some-true.result.now in
     let here : e ≡ expr (type_of e) f =
     whole e (type_of e) f refl (sym (ap form_in c.e.view_is) ∙ ap form_of arm.is
-    ∙ ap (λ z. logical_and z arm.b.value) (sym c.deref-in-LogicalAnd.ensures)
-    ∙ ap (λ z. logical_and c.deref-in-LogicalAnd.result.now z) (sym c.deref-in-Some-true.ensures)) in
-    subst (λ (z : ExprTree). IsWord k z s c.truth_word.result) (sym here) (and-word k s (type_of e) c.deref-in-LogicalAnd.result.now c.deref-in-Some-true.result.now c.in-Some-true.field-0 c.truth_word.result c.in-Some-true.field-0-test (c.in-Some-true.ensures calls k s sees) (c.truth_word.ensures calls k s sees))
+    ∙ ap (λ z. logical_and z arm.b.value) (sym c.deref.ensures)
+    ∙ ap (λ z. logical_and c.deref.result.now z) (sym c.deref-in-Some-true.ensures)) in
+    subst (λ (z : ExprTree). IsWord k z s c.truth_word.result) (sym here) (and-word k s (type_of e) c.deref.result.now c.deref-in-Some-true.result.now c.in-Some-true.field-0 c.truth_word.result c.in-Some-true.field-0-test (c.in-Some-true.ensures calls k s sees) (c.truth_word.ensures calls k s sees))
 
 pub operator_word-returns-in-Some-false : goal.operator_word-returns-in-Some-false
 operator_word-returns-in-Some-false m c = λ calls k s sees.
     let e = c.args.e.now in
     let arm = c.in-LogicalAnd in
-    let f : FormTree = logical_and c.deref-in-LogicalAnd.result.now c.in-LogicalAnd.b.value in
+    let f : FormTree = logical_and c.deref.result.now c.in-LogicalAnd.b.value in
     let here : e ≡ expr (type_of e) f =
     whole e (type_of e) f refl (sym (ap form_in c.e.view_is) ∙ ap form_of arm.is
-    ∙ ap (λ z. logical_and z arm.b.value) (sym c.deref-in-LogicalAnd.ensures)) in
-    subst (λ (z : ExprTree). IsWord k z s (Some 0)) (sym here) (and-none k s (type_of e) c.deref-in-LogicalAnd.result.now c.in-LogicalAnd.b.value c.in-Some-false.field-0 c.in-Some-false.field-0-test (c.in-Some-false.ensures calls k s sees))
+    ∙ ap (λ z. logical_and z arm.b.value) (sym c.deref.ensures)) in
+    subst (λ (z : ExprTree). IsWord k z s (Some 0)) (sym here) (and-none k s (type_of e) c.deref.result.now c.in-LogicalAnd.b.value c.in-Some-false.field-0 c.in-Some-false.field-0-test (c.in-Some-false.ensures calls k s sees))
 
 pub operator_word-returns-in-Some-true-asked : goal.operator_word-returns-in-Some-true-asked
 operator_word-returns-in-Some-true-asked m c = λ calls k s sees.
@@ -148,6 +149,20 @@ value-returns-in-None m c = λ calls k s sees.
     let f : FormTree = read c.in-Read.p in
     let here : e ≡ expr t f = whole e t f (c.deref.ensures ∙ ap type_of c.e.view_is) (sym (ap form_in c.e.view_is) ∙ ap form_of c.in-Read.is) in
     subst (λ (z : ExprTree). IsValue k z s c.object_value.result) (sym here) (c.object_value.ensures calls k s sees)
+
+pub value-returns-in-Binary-PointerPlus-default-default : goal.value-returns-in-Binary-PointerPlus-default-default
+value-returns-in-Binary-PointerPlus-default-default m c = λ calls k s sees.
+    let e = c.args.e.now in
+    let arm = c.in-Binary-PointerPlus-default-default in
+    let a = c.deref-in-Binary-PointerPlus-default-default.result.now in
+    let b = c.deref-in-Binary-PointerPlus-default-default-2.result.now in
+    let o = binary_op.PointerPlus arm.size in
+    let f : FormTree = binary o a b in
+    let here : e ≡ expr (type_of e) f =
+    whole e (type_of e) f refl
+    (sym (ap form_in c.e.view_is) ∙ ap form_of arm.is
+    ∙ ap₂ (binary o) (sym c.deref-in-Binary-PointerPlus-default-default.ensures) (sym c.deref-in-Binary-PointerPlus-default-default-2.ensures)) in
+    subst (λ (z : ExprTree). IsValue k z s c.element.result) (sym here) (c.element.ensures (type_of e) calls k s sees)
 
 pub value-returns-in-Address : goal.value-returns-in-Address
 value-returns-in-Address m c = λ calls k s sees.
