@@ -1,7 +1,7 @@
 #!/bin/bash
 # measure.sh PROGRAM: smallest stack (KiB) for each source and recipe
 P=$1; shift
-cd /tmp
+cd TMP
 src() {
 repeat() { yes "$1" | head -n "$2" | tr -d '\n'; }
 breaks() { printf 'int main(void) { while (1) { '; repeat 'break; ' $1; printf '} return 3; }'; }
