@@ -398,8 +398,8 @@ class Trial:
         with open(self.file("out.elf"), "rb") as f:
             return status, report, f.read()
 
-    def run(self, what, recipe, src, data, output, end, steps=None):
-        status, report, image = self.build(src, recipe)
+    def run(self, what, recipe, src, data, output, end, steps=None, code=None):
+        status, report, image = self.build(src, recipe, code=code)
         words = [] if steps is None else ["--steps", str(steps)]
         got = self.call("run", "out.elf", *words, data=data) if image is not None else (status, b"", report)
         self.same(what, (0 if end.startswith("exit") else 7, output, end + "\n"), got)

@@ -21,6 +21,8 @@ if not os.path.exists("crates.txt"):
 TOKEN = re.compile(r"[^\s(){}\[\],;.λ«»\"`]+|\[\]")
 RT_TOKEN = re.compile(r"&&|[^\s(){}\[\],;.λ«»\"`:&]+|\[\]")
 USE = re.compile(r"^\s*(?:pub )?(?:ghost )?use\s+(.*)$")
+# A module that a crate passes on of another has the path that it has there.
+PASSED = re.compile(r"Rattle\.[a-z_0-9]+\.(specs|proofs)\.(?:of_)?(?!declared\.|contracts\.|lemmas\.)([a-z_0-9]+)\.(?=[A-Z]|declared\.|contracts\.|lemmas\.)")
 NAMED = re.compile(r"^((?:pub |abbrev |unfoldable |mutual |instance )*)(?:(data|record|ruleset|class) )?([^\s:(){}]+)(?: |$)")
 KEYWORDS = {"use", "module", "mod", "open", "infixl", "infixr", "infix", "mutual", "where", "syntax", "--", "in"}
 
@@ -42,7 +44,7 @@ class File:
     def __init__(self, path):
         self.path, self.crate = path, path.split("/")[1]
         self.rt = path.endswith(".rt")
-        text = open(path, encoding="utf-8").read()
+        text = PASSED.sub(r"Rattle.\2.\1.", open(path, encoding="utf-8").read())
         self.lines = text.split("\n")
         inner = path.split("/", 2)[2][: -len(".antt")] if not self.rt else ""
         self.module = "Rattle.%s.%s" % (self.crate, inner.replace("/", ".")) if inner else ""

@@ -6,7 +6,7 @@ cd "$(dirname "$0")/.." || exit 1
 script=tools/decode.sh
 . tools/lib.sh
 need riscv64-unknown-elf-objdump python3
-built cc_bench
+built c_rows
 
 # 250 words for each opcode of RV32IM, with the fields of registers and functions drawn by a fixed generator.
 python3 - "$folder" <<'PYTHON'

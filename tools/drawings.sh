@@ -6,7 +6,7 @@ cd "$(dirname "$0")/.." || exit 1
 script=tools/drawings.sh
 . tools/lib.sh
 need python3
-built g_dot_rows
+built g_rows
 
 cat >"$folder/drawings.py" <<'END'
 import concurrent.futures
@@ -74,9 +74,9 @@ texts = [(name, text) for name in sorted(os.listdir(os.path.join(rows, "graphs")
          for text in lambdas(read("graphs", name))]
 texts += [(name, text) for name in sorted(os.listdir(os.path.join(rows, "rules"))) if name.endswith(".case")
           for text in lambdas(read("rules", name))]
-table = "".join("\n".join(text) + "\ndraw\n" for _, text in texts)
+table = "part drawings\n" + "".join("\n".join(text) + "\ndraw\n" for _, text in texts)
 drawn = subprocess.run([program], input=table, stdout=subprocess.PIPE, text=True, check=True).stdout
-drawings = re.split(r"^(?=digraph )", drawn, flags=re.M)[1:]
+drawings = re.split(r"^(?=digraph |0 rows, )", drawn, flags=re.M)[1:-1]
 failed = 0 if len(drawings) == len(texts) else 1
 for (name, text), drawing in zip(texts, drawings):
     if sorted(EDGE.findall(drawing)) != edges(text):
@@ -98,5 +98,5 @@ else:
     print("dot is not installed: no drawing is laid out")
 print("%d drawings, %d failed" % (len(drawings), failed))
 END
-python3 "$folder/drawings.py" "$program" rows | sed "\$s,^,$script: ," | tee "$folder/answer" || fail "g_dot_rows stopped"
+python3 "$folder/drawings.py" "$program" rows | sed "\$s,^,$script: ," | tee "$folder/answer" || fail "g_rows stopped"
 tail -n 1 "$folder/answer" | grep -q '^tools/drawings.sh: [1-9][0-9]* drawings, 0 failed$'

@@ -98,6 +98,19 @@ for path in crates/*_def/ crates/*_laws/ crates/*_keeps/; do
     [ -z "$wrong" ] || fail "$crate allocates or changes: $wrong"
 done
 
+# ---- paths: for its stamps `rt ci` reads a library's files, and for each path that leads from it to another library those of that one
+
+most_read=45000000
+find crates/*/src crates/*/specs crates/*/proofs -type f 2>/dev/null | cut -d / -f 2 | sort | uniq -c >"$folder/files"
+for path in crates/*/src/main.rt; do path=${path#crates/}; echo "program ${path%%/*}"; done >"$folder/programs"
+read_files=$(awk '
+    FILENAME == ARGV[1] { files[$2] = $1; next }
+    FILENAME == ARGV[2] { program[$2] = 1; next }
+    { sum = files[$1] + 6; for (i = 2; i <= NF; i++) sum += read[$i]; read[$1] = sum; if (!($1 in program)) all += sum }
+    END { printf "%d", all }
+' "$folder/files" "$folder/programs" "$folder/crates")
+[ "$read_files" -le $most_read ] || fail "crates.txt: by the paths of libraries a gate reads $read_files files for a round of stamps, more than $most_read: name what is used alone, and let a library pass on what stands below it"
+
 # ---- edges: what a crate may stand on, by the rows of the prefixes, and by its ending
 
 # a row's number, and a prefix of it or, after `may`, what it may name
@@ -110,7 +123,7 @@ sed -n '/^## Prefixes$/,/^## /p' docs/NAMES.md | awk -F '|' '
     }
 ' >"$folder/rows"
 awk '
-    function is_test(name) { return name ~ /_(tests|rows|bench)$/ }
+    function is_test(name) { return name ~ /_(tests|rows)$/ }
     function begins(name, prefix) { return name == prefix || (prefix ~ /_$/ && index(name, prefix) == 1) }
     function row_of(name,  i) { for (i = 1; i <= prefixes; i++) if (begins(name, prefix[i])) return row[i]; return 0 }
     function may_name(r, name,  i) {

@@ -166,6 +166,7 @@ for source in one four chain squares; do
             refuse "$opening$creation" "$folder/nothing" build "$in" "$out" --report $report --workers $workers
         done
     done
+    refuse "$opening$creation" "$folder/nothing" build "$in" "$out" --code tight
     refuse "" "$folder/$source.c"
     "$program" build "$folder/$source.c" "$folder/$source.elf" || fail "$source.c is not built"
     image=$(named $source.elf $read_length) || exit 1

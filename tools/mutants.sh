@@ -9,9 +9,27 @@ script=tools/mutants.sh
 [ $# -gt 0 ] || exit 0
 table=docs/mutants.tsv
 
-# Crates of the table whose proof takes at most a minute, one of them by the sum of the last commit's tree: against a false line.
+# Crates of the table that are proved in at most ten minutes of a processor with all that they stand on, which a kit may keep or not,
+# one of them by the sum of the last commit's tree: against a false line.
 drawn() {
-    awk 'NR == FNR { price[$1] = $2; next } ($1 in price) && price[$1] <= 60 { print $1 }' docs/prices.tsv $table >"$folder/cheap"
+    awk '
+        FNR == 1 { file++ }
+        file == 1 { price[$1] = $2 }
+        file == 2 && /^[a-z]/ { sub(/#.*/, ""); name = $1; sub(/:.*/, "", name); sub(/^[^:]*:/, ""); below[name] = $0 }
+        file == 3 && cost($1) <= 600 { print $1 }
+        function cost(name) {
+            delete seen
+            return add(name)
+        }
+        function add(name, sum, names, count, i) {
+            if ((name in seen) || !(name in below)) return 0
+            seen[name] = 1
+            sum = name in price ? price[name] : 60
+            count = split(below[name], names, " ")
+            for (i = 1; i <= count; i++) sum += add(names[i])
+            return sum
+        }
+    ' docs/prices.tsv crates.txt $table >"$folder/cheap"
     count=$(wc -l <"$folder/cheap")
     [ "$count" -gt 0 ] || return 1
     number=$(git rev-parse 'HEAD^{tree}' 2>/dev/null | cut -c 1-7)

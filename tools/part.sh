@@ -1,7 +1,7 @@
 #!/bin/sh
 # part.sh NAME..: copies these crates and those that they stand on to a new folder, in which a plain `rt ci` proves them side
-# by side, and prints the folder, which is the caller's to remove. Mutants and the crates above stay behind. What is proved
-# there is kept on this machine for every checkout of the same files. Without a name it does nothing.
+# by side, and prints the folder, which is the caller's to remove. Mutants and the crates above stay behind. A kit that keeps
+# proofs keeps those for every checkout of the same files. Without a name it does nothing.
 set -u
 cd "$(dirname "$0")/.." || exit 1
 [ $# -gt 0 ] || exit 0

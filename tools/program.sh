@@ -67,7 +67,7 @@ progress() {
 
 build() {
     command -v rt >/dev/null 2>&1 || { say 'there is no program of these sources, and no rt to build one'; return 1; }
-    say 'the program is proved and built first; after an interrupt it goes on where it was'
+    say 'the program is proved and built first'
     part=$(sh tools/part.sh $crate) || return 1
     log=$part.log
     trap 'rm -rf "$part" "$log"; exit 1' INT TERM HUP

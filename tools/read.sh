@@ -73,8 +73,11 @@ function flush(  i, j) {
     }
     lines = 0
 }
+# A module that a crate passes on of another has the path that it has there.
 function import(line,  path, names, n, i, name, as) {
     sub(/^(pub )?use /, "", line)
+    while (match(line, /^Rattle\.[a-z_0-9]+\.specs\.[a-z_0-9]+\./) && line !~ /^Rattle\.[a-z_0-9]+\.specs\.(declared|contracts)\./)
+        sub(/^Rattle\.[a-z_0-9]+\.specs\./, "Rattle.", line) && sub(/^Rattle\.[a-z_0-9]+\./, "&specs.", line)
     if (match(line, /\.\{/)) {
         path = substr(line, 1, RSTART - 1)
         names = substr(line, RSTART + 2); sub(/\}.*$/, "", names)

@@ -5,6 +5,7 @@ use Rattle.val_core.specs.Memory.{closed}
 use Rattle.val_core.specs.Objects.{address_in, opened}
 use Rattle.val_core.specs.Answers.{Returned, Cut, Undefined, then_on, active}
 use Rattle.g_graph.specs.Plain.{PlainObject, shapes_of}
+use Rattle.s_linear.specs.Frame.{PlainPlaces, is_lost}
 use Rattle.s_linear.specs.Linear.{Instr, const, undef, object_address, global_address, binary, unary, load, store, clear, equal_pointers, move, call, put, get, exit, Step, plain, choice, loop, Code, no_steps, step_then, Codes, no_codes, code_then, LinearFunction}
 use Rattle.s_linear.specs.Lines.{lines}
 use Rattle.val_core.specs.Numbers.{numbers_from}
@@ -42,22 +43,30 @@ abbrev mutual
   placed_codes f no_codes = no_codes
   placed_codes f (code_then k ks) = code_then (placed_code f k) (placed_codes f ks)
 
--- A function over places: the places of its parameters in order, its memory objects, its code, and the place of its value.
+-- A function over places: how many of them are registers that a call loses, the places of its parameters in order, its memory
+-- objects, its code, and the place of its value.
 pub record PlacedFunction : Type 0 where
+  pub temporaries : ℕ
   pub params : List ℕ
   pub objects : List PlainObject
   pub code : Code
   pub value : ℕ
 
+abbrev pub placed_at : PlainPlaces → LinearFunction → PlacedFunction
+placed_at p f = record {
+  temporaries = p.temporaries;
+  params = map (slice_index p.of) (numbers_from 0 f.params);
+  objects = f.objects;
+  code = placed_code (slice_index p.of) f.code;
+  value = slice_index p.of f.value;
+}
+
 -- the place that a name of a function has, by the intervals of its lines
 abbrev pub place_of : LinearFunction → (name : ℕ) → ℕ
 place_of f x = slice_index (places (lines f)).of x
 
-abbrev pub placed_at : (place : ℕ → ℕ) → LinearFunction → PlacedFunction
-placed_at place f = record { params = map place (numbers_from 0 f.params); objects = f.objects; code = placed_code place f.code; value = place f.value }
-
 abbrev pub placed : LinearFunction → PlacedFunction
-placed f = placed_at (place_of f) f
+placed f = placed_at (places (lines f)) f
 
 -- ---- what functions over places do
 
@@ -72,7 +81,12 @@ placed_entered n callees global None vs m i = Undefined []
 placed_entered n callees global (Some f) vs m i =
     then_on
     (code_run
-    (record { bound = n; call = callees; addresses = record { local = address_in (length m) (map (λ o. o.size) f.objects); global = global } })
+    (record {
+      bound = n;
+      call = callees;
+      lost = is_lost f.temporaries;
+      addresses = record { local = address_in (length m) (map (λ o. o.size) f.objects); global = global };
+    })
     f.code
     (record { names = put_params f.params 0 vs no_names; memory = m ++ opened (shapes_of f.objects); input = i }))
     (λ s. Returned (record { value = s.names f.value; memory = closed (length m) (length f.objects) s.memory; input = s.input }) [])

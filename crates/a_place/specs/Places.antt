@@ -79,8 +79,10 @@ place_in (g ∷ gs) x = if g.name == x then g.place else place_in gs x
 abbrev pub all_given : List Line → List Given
 all_given lines = given lines (in_order lines) []
 
+-- no place is a register that a call loses
 abbrev pub places : List Line → PlainPlaces
 places lines = record {
   of = map (place_in (all_given lines)) (numbers_from 0 (name_count lines));
   count = count_of (all_given lines);
+  temporaries = 0;
 }

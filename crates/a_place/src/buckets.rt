@@ -1,12 +1,13 @@
 //! Lists of numbers by index.
 
+use smallvec::SmallVec;
 use std::alloc::{AllocError, Global};
 use std::marker::Model;
 
-/// A list of numbers for each index below a size.
+/// A list of numbers for each index below a size. Most lists are short.
 #[derive(Drop)]
 pub(crate) struct Buckets {
-    lists: Vec<Vec<u32>>,
+    lists: Vec<SmallVec<u32, 4>>,
 }
 
 impl Model for Buckets {
@@ -27,7 +28,7 @@ impl Buckets {
     {
         let mut lists = Vec::with_capacity(alloc, size)?;
         for _ in 0..size {
-            lists.push(Vec::new(alloc))?;
+            lists.push(SmallVec::new(alloc))?;
         }
         Ok(Buckets { lists })
     }

@@ -110,11 +110,12 @@ impl Sweep {
 
     /// The places given.
     pub(crate) fn places(self) -> Places
-        ensures { result ≡ record { of = self.of.items; count = self.count } }
+        ensures { result ≡ record { of = self.of.items; count = self.count; temporaries = 0 } }
     {
         Places {
             of: self.of,
             count: self.count,
+            temporaries: 0,
         }
     }
 }

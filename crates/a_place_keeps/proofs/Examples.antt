@@ -1,6 +1,6 @@
 -- Worked rows: what functions do over names and over their places; two wrong choices of places, a choice of one code, and a loop
 -- that reads a name from outside.
-use Rattle.std.specs.Prelude.{◌≡◌, refl, ℕ, Bool, ◌==◌, nat_lt, ◌&&◌, List, [], ◌∷◌, map, slice_index}
+use Rattle.std.specs.Prelude.{◌≡◌, refl, ℕ, Bool, ◌==◌, nat_lt, ◌&&◌, List, [], ◌∷◌, map}
 use Rattle.std.proofs.Common.{inl, inr}
 use Rattle.g_graph.specs.WellFormed.{some_of}
 use Rattle.val_core.specs.declared.values.Value.{Value}
@@ -12,7 +12,9 @@ use Rattle.val_core.specs.Within.{Given}
 use Rattle.s_linear.specs.Linear.{const, undef, binary, move, call, put, get, plain, choice, loop, no_steps, step_then, no_codes, code_then, LinearFunction}
 use Rattle.s_linear.specs.Lines.{Line, enter, leave, done, branch_zero, jump, label, lines}
 use Rattle.s_linear.specs.Meaning.{calls}
-use Rattle.a_place.specs.Places.{first, last, in_order, least, count_of, place_in, places}
+use Rattle.val_core.specs.Numbers.{numbers_from}
+use Rattle.s_linear.specs.Frame.{PlainPlaces}
+use Rattle.a_place.specs.Places.{first, last, name_count, in_order, least, count_of, place_in, places}
 use Rattle.a_place.specs.Places as place
 use Rattle.s_sequence_keeps.specs.Closed.{FunctionIsClosed}
 use Rattle.a_place.specs.Placed.{placed_at, placed, placed_calls}
@@ -27,8 +29,8 @@ over_names n fs vs i = calls fs no_globals n 0 vs [] i
 abbrev over_places : (bound : ℕ) → List LinearFunction → List Value → List ℕ → Answer (Given Value)
 over_places n fs vs i = placed_calls (map placed fs) no_globals n 0 vs [] i
 
-abbrev over_other : (bound : ℕ) → (place : ℕ → ℕ) → LinearFunction → List Value → List ℕ → Answer (Given Value)
-over_other n f g vs i = placed_calls (placed_at f g ∷ []) no_globals n 0 vs [] i
+abbrev over_other : (bound : ℕ) → PlainPlaces → LinearFunction → List Value → List ℕ → Answer (Given Value)
+over_other n p g vs i = placed_calls (placed_at p g ∷ []) no_globals n 0 vs [] i
 
 abbrev gives : ℕ → Answer (Given Value)
 gives w = Returned (record { value = Num w; memory = []; input = [] }) (called 0 [])
@@ -68,10 +70,14 @@ abbrev given_inside : List Line → (names : List ℕ) → List place.Given → 
 given_inside ls [] gs = gs
 given_inside ls (x ∷ xs) gs = given_inside ls xs (record { name = x; place = least (taken ls x gs) 0 (count_of gs) } ∷ gs)
 
-abbrev inside_place : LinearFunction → ℕ → ℕ
-inside_place f = place_in (given_inside (lines f) (in_order (lines f)) [])
+abbrev inside_places : LinearFunction → PlainPlaces
+inside_places f = record {
+  of = map (place_in (given_inside (lines f) (in_order (lines f)) [])) (numbers_from 0 (name_count (lines f)));
+  count = 0;
+  temporaries = 0;
+}
 
-two-inside : over_other 1 (inside_place two) two (Num 0 ∷ Num 5 ∷ []) [] ≡ gives 9
+two-inside : over_other 1 (inside_places two) two (Num 0 ∷ Num 5 ∷ []) [] ≡ gives 9
 two-inside = refl
 
 -- ---- do { a = a - 1; b = b + a; } while (a);
@@ -104,7 +110,7 @@ forward =
     enter (0 ∷ 1 ∷ []) ∷ done (move 2 0) ∷ done (move 3 1) ∷ label 0 ∷ done (const 4 1) ∷ done (binary Sub 5 2 4)
     ∷ done (binary Add 6 3 5) ∷ done (move 7 5) ∷ done (move 8 6) ∷ branch_zero 5 1 ∷ jump 0 ∷ label 1 ∷ leave 8 ∷ []
 
-sum-forward : over_other 5 (slice_index (places forward).of) sum (Num 4 ∷ Num 10 ∷ []) [] ≡ Cut (called 0 [])
+sum-forward : over_other 5 (places forward) sum (Num 4 ∷ Num 10 ∷ []) [] ≡ Cut (called 0 [])
 sum-forward = refl
 
 -- ---- calls, output and the end of the input

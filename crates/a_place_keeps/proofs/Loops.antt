@@ -7,7 +7,7 @@ use Rattle.a_place_keeps.proofs.Needs.{need_after, need_code}
 use Rattle.a_place_keeps.proofs.Defined.{IsSubset, instrs_more, instrs_grow, instrs_wider, instrs_defined, code_defined, with_others, label_in, label_defined}
 
 -- what is written after instructions was written before or is their target
-split_written : (is : List Instr) (D : NameSet) (x : ℕ) → after_instrs D is x → D x ⊎ after_instrs none_written is x
+pub split_written : (is : List Instr) (D : NameSet) (x : ℕ) → after_instrs D is x → D x ⊎ after_instrs none_written is x
 split_written [] D x w = inl w
 split_written (i ∷ is) D x w = split (split_written is (after_instr D i) x w)
   where

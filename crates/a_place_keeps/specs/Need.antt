@@ -1,7 +1,7 @@
 -- Which names are needed before a code when some are needed after it, and when places are safe for a code: a write changes no
--- other name's place that is needed.
-use Rattle.std.specs.Prelude.{◌≡◌, ◌≢◌, ◌≤◌, ◌⊎◌, ℕ, List, [], ◌∷◌, Some}
-use Rattle.s_linear.specs.Linear.{Instr, Step, plain, choice, loop, Code, no_steps, step_then, Codes, no_codes, code_then}
+-- other name's place that is needed, and a call loses none.
+use Rattle.std.specs.Prelude.{◌≡◌, ◌≢◌, ◌≤◌, ◌⊎◌, ℕ, Bool, false, List, [], ◌∷◌, Some}
+use Rattle.s_linear.specs.Linear.{Instr, move, call, Step, plain, choice, loop, Code, no_steps, step_then, Codes, no_codes, code_then}
 use Rattle.s_linear.specs.Lines.{counted}
 use Rattle.s_sequence_keeps.specs.Closed.{target_of, sources_of, NameSet, none_written}
 
@@ -55,25 +55,36 @@ at_branch body p back N x = (p ≡ x) ⊎ joined N (needed_by_instrs back (at_la
 
 -- ---- safe places
 
--- no other name that is needed after the instruction has its target's place
-abbrev pub SafeInstr : (place : ℕ → ℕ) → Instr → NameSet → Type 0
-SafeInstr f i N = (t x : ℕ) → target_of i ≡ Some t → N x → t ≢ x → f t ≢ f x
+-- an instruction is a move from a name
+abbrev pub IsMoveFrom : (name : ℕ) → Instr → Type 0
+IsMoveFrom x (move t a) = a ≡ x
+IsMoveFrom x i = ⊥
 
-abbrev pub SafeInstrs : (place : ℕ → ℕ) → List Instr → NameSet → Type 0
-SafeInstrs f [] N = Unit {0}
-SafeInstrs f (i ∷ is) N = SafeInstr f i (needed_by_instrs is N) × SafeInstrs f is N
+-- an instruction is no call, or calls do not lose this place
+abbrev pub KeepsPlace : (lost : ℕ → Bool) → Instr → (place : ℕ) → Type 0
+KeepsPlace lost (call g t xs) p = lost p ≡ false
+KeepsPlace lost i p = Unit {0}
+
+-- No other name that is needed after the instruction has its target's place, but the source of a move, and a call loses the place of none.
+abbrev pub SafeInstr : (place : ℕ → ℕ) → (lost : ℕ → Bool) → Instr → NameSet → Type 0
+SafeInstr f lost i N = (t x : ℕ) → target_of i ≡ Some t → N x → t ≢ x → ((f t ≢ f x) ⊎ IsMoveFrom x i) × KeepsPlace lost i (f x)
+
+abbrev pub SafeInstrs : (place : ℕ → ℕ) → (lost : ℕ → Bool) → List Instr → NameSet → Type 0
+SafeInstrs f lost [] N = Unit {0}
+SafeInstrs f lost (i ∷ is) N = SafeInstr f lost i (needed_by_instrs is N) × SafeInstrs f lost is N
 
 abbrev mutual
-  pub SafeStep : (place : ℕ → ℕ) → Step → NameSet → Type 0
-  SafeStep f (plain i) N = SafeInstr f i N
-  SafeStep f (choice p cs) N = SafeCodes f cs N
-  SafeStep f (loop moves body p back) N =
-      SafeInstrs f moves (at_label body p back N) × SafeCode f body (at_branch body p back N) × SafeInstrs f back (at_label body p back N)
+  pub SafeStep : (place : ℕ → ℕ) → (lost : ℕ → Bool) → Step → NameSet → Type 0
+  SafeStep f lost (plain i) N = SafeInstr f lost i N
+  SafeStep f lost (choice p cs) N = SafeCodes f lost cs N
+  SafeStep f lost (loop moves body p back) N =
+      SafeInstrs f lost moves (at_label body p back N) × SafeCode f lost body (at_branch body p back N)
+      × SafeInstrs f lost back (at_label body p back N)
 
-  pub SafeCode : (place : ℕ → ℕ) → Code → NameSet → Type 0
-  SafeCode f no_steps N = Unit {0}
-  SafeCode f (step_then s k) N = SafeStep f s (needed_by_code k N) × SafeCode f k N
+  pub SafeCode : (place : ℕ → ℕ) → (lost : ℕ → Bool) → Code → NameSet → Type 0
+  SafeCode f lost no_steps N = Unit {0}
+  SafeCode f lost (step_then s k) N = SafeStep f lost s (needed_by_code k N) × SafeCode f lost k N
 
-  pub SafeCodes : (place : ℕ → ℕ) → Codes → NameSet → Type 0
-  SafeCodes f no_codes N = Unit {0}
-  SafeCodes f (code_then k ks) N = SafeCode f k N × SafeCodes f ks N
+  pub SafeCodes : (place : ℕ → ℕ) → (lost : ℕ → Bool) → Codes → NameSet → Type 0
+  SafeCodes f lost no_codes N = Unit {0}
+  SafeCodes f lost (code_then k ks) N = SafeCode f lost k N × SafeCodes f lost ks N

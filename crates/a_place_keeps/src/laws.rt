@@ -1,7 +1,7 @@
 //! Laws of code over places, for the proofs of the crates above: each is the contract of a function
 //! that does nothing.
 
-ghost use Rattle.a_place_keeps.specs.Laws.{SafeCodeDoesTheSame, IntervalsSpanCode, PlacesApartAreSafe, FunctionsAgree, SequencedFunctionsAgree};
+ghost use Rattle.a_place_keeps.specs.Laws.{ClosedHaveOwnTurns, SafeCodeDoesTheSame, IntervalsSpanCode, PlacesApartAreSafe, FunctionsAgree, SequencedFunctionsAgree, SequencedHaveOwnTurns, SequencedSharedAgree, SharedFunctionsAgree};
 
 /// Where places are safe for a code and what it needs holds in its place what it holds as a name,
 /// the code does the same over places: events, memory, input and status are equal, and so is what
@@ -35,4 +35,36 @@ pub fn sequenced_functions_agree()
 {
     s_sequence_keeps::laws::sequenced_code_is_closed();
     functions_agree();
+}
+
+/// Of each list of closed functions, calls over names and calls over shared places are equal at
+/// every bound.
+pub fn shared_functions_agree()
+    ensures { SharedFunctionsAgree }
+{
+    a_share_def::laws::shared_sites_are_safe();
+    a_share_def::laws::shared_params_differ();
+}
+
+/// Of the linear code of each list of well-formed lambdas, calls over names and calls over shared
+/// places are equal at every bound.
+pub fn sequenced_shared_agree()
+    ensures { SequencedSharedAgree }
+{
+    s_sequence_keeps::laws::sequenced_code_is_closed();
+    shared_functions_agree();
+}
+
+/// Closed functions whose choices have codes need at the label of a loop only what its moves back
+/// write and what is needed after it.
+pub fn closed_have_own_turns()
+    ensures { ClosedHaveOwnTurns }
+{}
+
+/// So it is with the linear code of well-formed lambdas.
+pub fn sequenced_have_own_turns()
+    ensures { SequencedHaveOwnTurns }
+{
+    s_sequence_keeps::laws::sequenced_code_is_closed();
+    closed_have_own_turns();
 }

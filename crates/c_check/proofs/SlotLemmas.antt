@@ -16,7 +16,7 @@ use Rattle.c_check_def.specs.Externals.{Param, declare_if, param_name, param_off
 use Rattle.c_check_laws.proofs.lemmas.States.{step_then}
 use Rattle.c_check_laws.proofs.lemmas.Steps.{breaks_if_steps, specified_type_steps}
 use Rattle.c_check_laws.proofs.lemmas.StatementSteps.{open_dimensions_steps}
-use Rattle.c_check_arm.proofs.lemmas.Slots.{Adds, adds_none, adds_then, keeps_slots, items_adds, entered}
+use Rattle.c_check_statement.proofs.of_c_check_arm.lemmas.Slots.{Adds, adds_none, adds_then, keeps_slots, items_adds, entered}
 use Rattle.c_check.specs.Functions.{body_items}
 use Rattle.c_check_laws.proofs.lemmas.Params.{param_type_steps}
 

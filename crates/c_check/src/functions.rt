@@ -11,11 +11,11 @@ ghost use Rattle.c_check.specs.Functions.{function_declared, function_ended, bod
 
 use crate::defined::is_block;
 use c_ast::{Block, BlockItem, Body, Function, Identifier, Params};
-use c_check_arm::Jumps;
+use c_check_external::c_check_type::{Specified, result_type};
 use c_check_external::{Param, bind_params, declare_function, name_params, params};
 use c_check_state::{MaybeType, State, Variable, or_void};
+use c_check_statement::c_check_arm::Jumps;
 use c_check_statement::items;
-use c_check_type::{Specified, result_type};
 use c_type::{CType, TypeForm};
 use c_typed::{Item, TFunction, Variable as TVariable};
 use no_memory::NoMemory;

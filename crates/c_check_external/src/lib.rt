@@ -4,6 +4,9 @@
 //! Always: the work of a definition of a struct is n log n in the members.
 #![tactic(auto)]
 
+// What is passed on of the libraries below.
+pub use c_check_type;
+
 mod agreement;
 mod bindings;
 mod definitions;

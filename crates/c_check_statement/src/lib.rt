@@ -3,6 +3,10 @@
 //! plain tree, out of memory apart.
 #![tactic(auto)]
 
+// What is passed on of the libraries below.
+pub use c_check_arm;
+pub use c_check_declaration;
+
 mod blocks;
 mod loops;
 mod statements;

@@ -145,23 +145,24 @@ decided-if p n e a b d x (v, is, h) =
     ∙ ap (λ z. then_on (then_on z (gives_value x)) (task_run p n (of_stmt (stmt.branch (tree.if_else e a b))))) is
     ∙ by-truth (type_of e) v d (stmt_task_run p n (stmt.run_stmt a) x) (stmt_task_run p n (stmt.run_stmt b) x) h
 
+pub if-chosen : (p : ProgramTree) (n : ℕ) (l : StmtTree) (e : ExprTree) (a b chosen : StmtTree) (d : Bool) (x : Configuration) → l ≡ tree.if_else e a b → HasTruth (context p n x) e (state_of x) d →
+    (if d then a else b) ≡ chosen → stmt_task_run p n (stmt.run_stmt l) x ≡ stmt_task_run p n (stmt.run_stmt chosen) x
+if-chosen p n l e a b chosen d x is known picks =
+    ap (λ s. stmt_task_run p n (stmt.run_stmt s) x) is
+    ∙ decided-if p n e a b d x known
+    ∙ pick d
+    ∙ ap (λ s. stmt_task_run p n (stmt.run_stmt s) x) picks
+  where
+    pick : (d : Bool) → (if d then stmt_task_run p n (stmt.run_stmt a) x else stmt_task_run p n (stmt.run_stmt b) x) ≡ stmt_task_run p n (stmt.run_stmt (if d then a else b)) x
+    pick true = refl
+    pick false = refl
+
 pub if_step : (p : ProgramTree) (n : ℕ) (r : Result Unit Stop) (old new : Machine) (l : StmtTree) (e : ExprTree) (a b chosen : StmtTree) (d : Bool) → l ≡ tree.if_else e a b →
     Knows p n old (λ c s. IsTruth c e s (Some d)) → (if d then a else b) ≡ chosen →
     IsStep p n r old new (tasks_do p n (of_stmt (stmt.run_stmt chosen) ∷ [])) → IsStep p n r old new (stmt_task_run p n (stmt.run_stmt l))
 if_step p n r old new l e a b chosen d is known picks step =
     same_step p n r old new (stmt_task_run p n (stmt.run_stmt l)) (tasks_do p n (of_stmt (stmt.run_stmt chosen) ∷ []))
-    (λ m i held.
-    let x : Configuration = config_of old m i in
-    ap (λ s. stmt_task_run p n (stmt.run_stmt s) x) is
-    ∙ decided-if p n e a b d x (known m i held)
-    ∙ pick d x
-    ∙ ap (λ s. stmt_task_run p n (stmt.run_stmt s) x) picks)
-    step
-  where
-    pick : (d : Bool) (x : Configuration) →
-        (if d then stmt_task_run p n (stmt.run_stmt a) x else stmt_task_run p n (stmt.run_stmt b) x) ≡ stmt_task_run p n (stmt.run_stmt (if d then a else b)) x
-    pick true x = refl
-    pick false x = refl
+    (λ m i held. if-chosen p n l e a b chosen d (config_of old m i) is (known m i held) picks) step
 
 -- an `if` whose condition is evaluated first
 pub if_put : (p : ProgramTree) (n : ℕ) (r : Result Unit Stop) (old new : Machine) (l : StmtTree) (e : ExprTree) (a b : StmtTree) → l ≡ tree.if_else e a b →
@@ -218,38 +219,38 @@ known-turns p n k e step a d x (v, is, h) =
     ∙ asked-while p n k e step a (with_operands x (v ∷ x.operands))
     ∙ by-truth (type_of e) v d (turns_do p n (turn_tasks k l a) x) (reaches normal x) h
 
+pub turns-known : (p : ProgramTree) (n k : ℕ) (l : StmtTree) (e : ExprTree) (s : OptionalExpr) (a : StmtTree) (d : Bool) (x : Configuration) → l ≡ tree.loop (some_expr e) s a →
+    HasTruth (context p n x) e (state_of x) d → stmt_task_run p n (stmt.run_turns k l) x ≡ (if d then turns_do p n (turn_tasks k l a) x else reaches normal x)
+turns-known p n k l e s a d x is known =
+    ap (λ z. stmt_task_run p n (stmt.run_turns k z) x) is
+    ∙ known-turns p n k e s a d x known
+    ∙ ap (λ z. if d then turns_do p n (turn_tasks k z a) x else reaches normal x) (sym is)
+
 pub while_true : (p : ProgramTree) (n : ℕ) (r : Result Unit Stop) (old new : Machine) (k : ℕ) (l : StmtTree) (e : ExprTree) (s : OptionalExpr) (a : StmtTree) → l ≡ tree.loop (some_expr e) s a →
     Knows p n old (λ c z. IsTruth c e z (Some true)) → IsStep p n r old new (turns_do p n (turn_tasks k l a)) → IsStep p n r old new (stmt_task_run p n (stmt.run_turns k l))
 while_true p n r old new k l e s a is known step =
     same_step p n r old new (stmt_task_run p n (stmt.run_turns k l)) (turns_do p n (turn_tasks k l a))
-    (λ m i held.
-    let x : Configuration = config_of old m i in
-    ap (λ z. stmt_task_run p n (stmt.run_turns k z) x) is
-    ∙ known-turns p n k e s a true x (known m i held)
-    ∙ ap (λ z. turns_do p n (turn_tasks k z a) x) (sym is))
-    step
+    (λ m i held. turns-known p n k l e s a true (config_of old m i) is (known m i held)) step
 
 pub while_false : (p : ProgramTree) (n : ℕ) (u : Unit) (old : Machine) (k : ℕ) (l : StmtTree) (e : ExprTree) (s : OptionalExpr) (a : StmtTree) → old.flow ≡ Normal → l ≡ tree.loop (some_expr e) s a →
     Knows p n old (λ c z. IsTruth c e z (Some false)) → IsStep p n (Ok u) old old (stmt_task_run p n (stmt.run_turns k l))
 while_false p n u old k l e s a flow is known m held =
     done_at_once p n old old (λ i. stmt_task_run p n (stmt.run_turns k l) (config_of old m i)) m refl held
-    (λ i.
-    let x : Configuration = config_of old m i in
+    (λ i. let x : Configuration = config_of old m i in turns-known p n k l e s a false x is (known m i held) ∙ ap (λ f. reaches (flow_of f) x) (sym flow))
+
+pub turns-asked : (p : ProgramTree) (n k : ℕ) (l : StmtTree) (e : ExprTree) (s : OptionalExpr) (a : StmtTree) (x : Configuration) → l ≡ tree.loop (some_expr e) s a →
+    stmt_task_run p n (stmt.run_turns k l) x ≡ tasks_do p n (of_stmt (stmt.turn_if k l) ∷ of_expr (task.evaluate e) ∷ []) x
+turns-asked p n k l e s a x is =
     ap (λ z. stmt_task_run p n (stmt.run_turns k z) x) is
-    ∙ known-turns p n k e s a false x (known m i held)
-    ∙ ap (λ f. reaches (flow_of f) x) (sym flow))
+    ∙ turns-expand p n k (tree.loop (some_expr e) s a) x tt
+    ∙ ap (λ z. tasks_do p n (of_stmt (stmt.turn_if k z) ∷ of_expr (task.evaluate e) ∷ []) x) (sym is)
 
 -- a loop whose condition is evaluated first
 pub while_put : (p : ProgramTree) (n : ℕ) (r : Result Unit Stop) (old new : Machine) (k : ℕ) (l : StmtTree) (e : ExprTree) (s : OptionalExpr) (a : StmtTree) → l ≡ tree.loop (some_expr e) s a →
     IsStep p n r old new (tasks_do p n (of_stmt (stmt.turn_if k l) ∷ of_expr (task.evaluate e) ∷ [])) → IsStep p n r old new (stmt_task_run p n (stmt.run_turns k l))
 while_put p n r old new k l e s a is step =
     same_step p n r old new (stmt_task_run p n (stmt.run_turns k l)) (tasks_do p n (of_stmt (stmt.turn_if k l) ∷ of_expr (task.evaluate e) ∷ []))
-    (λ m i held.
-    let x : Configuration = config_of old m i in
-    ap (λ z. stmt_task_run p n (stmt.run_turns k z) x) is
-    ∙ turns-expand p n k (tree.loop (some_expr e) s a) x tt
-    ∙ ap (λ z. tasks_do p n (of_stmt (stmt.turn_if k z) ∷ of_expr (task.evaluate e) ∷ []) x) (sym is))
-    step
+    (λ m i held. turns-asked p n k l e s a (config_of old m i) is) step
 
 -- ---- items
 

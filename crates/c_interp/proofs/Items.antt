@@ -8,7 +8,7 @@ use Rattle.val_core.specs.declared.values.Value.TheVariants.{Num, At, Bad}
 use Rattle.val_core.specs.Memory.{Memory}
 use Rattle.val_core.specs.Answers.{Answer, Undefined, then_on, on_defined}
 use Rattle.c_typed.specs.Typed as tree
-use Rattle.c_typed.specs.Typed.{ExprTree, some_expr, InitialTree, StmtTree, ItemTrees, declare_then, VariableTree, DeclarationTree, ProgramTree}
+use Rattle.c_typed.specs.Typed.{ExprTree, OptionalExpr, some_expr, InitialTree, StmtTree, ItemTrees, declare_then, VariableTree, DeclarationTree, ProgramTree}
 use Rattle.c_typed.specs.Objects.{object_number}
 use Rattle.c_mean.specs.State.{holds, object, used}
 use Rattle.c_mean.specs.Statements.{normal, newest_written}
@@ -25,16 +25,16 @@ use Rattle.c_interp_def.specs.declared.task.Handler.TheVariants.{EndScope}
 use Rattle.c_interp_def.specs.declared.task.Slot.{Slot}
 use Rattle.c_interp_def.specs.declared.task.Slot.TheVariants.{Holds as HeldSlot}
 use Rattle.c_interp_expand.specs.TaskViews.{slot_of, slots_of}
-use Rattle.c_interp_answer.specs.Answered.{IsValue}
+use Rattle.c_interp_answer.specs.Answered.{IsValue, IsTruth}
 use Rattle.c_interp.specs.declared.stop.Stop.{Stop}
 use Rattle.c_interp.specs.declared.stop.Stop.TheVariants as stop
 use Rattle.c_interp.specs.declared.machine.Machine.{Machine}
 use Rattle.c_interp.specs.Machines.{config_of, IsHeld}
 use Rattle.c_interp.specs.Known.{Knows}
-use Rattle.c_interp.specs.Steps.{IsStep, tasks_do, turns_do, declared, declared_do, is_value, with_frame_slots}
+use Rattle.c_interp.specs.Steps.{IsStep, tasks_do, turns_do, loop_then, declared, declared_do, is_value, with_frame_slots}
 use Rattle.c_interp.proofs.Steps.{with_tasks, moved, same_step, undefined_step}
 use Rattle.c_interp.proofs.StmtSteps.{with_slots}
-use Rattle.c_interp.proofs.AtOnce.{put_then}
+use Rattle.c_interp.proofs.AtOnce.{put_then, if-chosen}
 
 -- ---- a statement that becomes tasks
 
@@ -58,6 +58,42 @@ value_items p n r old new l e is here step =
     ap (λ s. then_on (stmt_task_run p n (stmt.run_stmt s) x) (task_run p n (of_stmt (stmt.run_items is)))) here
     ∙ ap (λ a. then_on a (task_run p n (of_stmt (stmt.run_items is)))) (statement-expands p n (tree.value e) x))
     step
+
+-- a statement that does the same as another one, or nothing, and then the items after it
+items-same : (p : ProgramTree) (n : ℕ) (r : Result Unit Stop) (old new : Machine) (a : StmtTree) (is : ItemTrees) (run : Configuration → Answer Reached) →
+    ((m : Memory) (i : List ℕ) → IsHeld p old m → stmt_task_run p n (stmt.run_stmt a) (config_of old m i) ≡ run (config_of old m i)) →
+    IsStep p n r old new (λ x. then_on (run x) (task_run p n (of_stmt (stmt.run_items is)))) → IsStep p n r old new (tasks_do p n (of_stmt (stmt.run_items is) ∷ of_stmt (stmt.run_stmt a) ∷ []))
+items-same p n r old new a is run does step =
+    same_step p n r old new (tasks_do p n (of_stmt (stmt.run_items is) ∷ of_stmt (stmt.run_stmt a) ∷ [])) (λ x. then_on (run x) (task_run p n (of_stmt (stmt.run_items is))))
+    (λ m i held. ap (λ z. then_on z (task_run p n (of_stmt (stmt.run_items is)))) (does m i held)) step
+
+pub null_items : (p : ProgramTree) (n : ℕ) (r : Result Unit Stop) (old new : Machine) (l : StmtTree) (is : ItemTrees) → l ≡ tree.null → IsStep p n r old new (stmt_task_run p n (stmt.run_items is)) →
+    IsStep p n r old new (tasks_do p n (of_stmt (stmt.run_items is) ∷ of_stmt (stmt.run_stmt l) ∷ []))
+null_items p n r old new l is here step =
+    items-same p n r old new l is (reaches normal)
+    (λ m i held. let x : Configuration = config_of old m i in ap (λ s. stmt_task_run p n (stmt.run_stmt s) x) here ∙ statement-expands p n tree.null x) step
+
+-- an `if` whose condition is known
+pub if_items : (p : ProgramTree) (n : ℕ) (r : Result Unit Stop) (old new : Machine) (l : StmtTree) (e : ExprTree) (a b chosen : StmtTree) (is : ItemTrees) (d : Bool) → l ≡ tree.if_else e a b →
+    Knows p n old (λ c s. IsTruth c e s (Some d)) → (if d then a else b) ≡ chosen → IsStep p n r old new (tasks_do p n (of_stmt (stmt.run_items is) ∷ of_stmt (stmt.run_stmt chosen) ∷ [])) →
+    IsStep p n r old new (tasks_do p n (of_stmt (stmt.run_items is) ∷ of_stmt (stmt.run_stmt l) ∷ []))
+if_items p n r old new l e a b chosen is d here known picks step =
+    items-same p n r old new l is (stmt_task_run p n (stmt.run_stmt chosen)) (λ m i held. if-chosen p n l e a b chosen d (config_of old m i) here (known m i held) picks) step
+
+-- a loop, as its end and its turns
+loop-ends : (p : ProgramTree) (n : ℕ) (l : StmtTree) (e : ExprTree) (s : OptionalExpr) (b : StmtTree) (x : Configuration) → l ≡ tree.loop (some_expr e) s b →
+    stmt_task_run p n (stmt.run_stmt l) x ≡ then_on (stmt_task_run p n (stmt.run_turns n l) x) (task_run p n (handler stmt.end_switch))
+loop-ends p n l e s b x here =
+    ap (λ z. stmt_task_run p n (stmt.run_stmt z) x) here
+    ∙ statement-expands p n (tree.loop (some_expr e) s b) x
+    ∙ ap (λ z. then_on (stmt_task_run p n (stmt.run_turns n z) x) (task_run p n (handler stmt.end_switch))) (sym here)
+
+pub loop_items : (p : ProgramTree) (n : ℕ) (r : Result Unit Stop) (old new : Machine) (l : StmtTree) (e : ExprTree) (s : OptionalExpr) (b : StmtTree) (is : ItemTrees) (run : Configuration → Answer Reached) →
+    l ≡ tree.loop (some_expr e) s b → ((m : Memory) (i : List ℕ) → IsHeld p old m → stmt_task_run p n (stmt.run_turns n l) (config_of old m i) ≡ run (config_of old m i)) →
+    IsStep p n r old new (loop_then p n is run) → IsStep p n r old new (tasks_do p n (of_stmt (stmt.run_items is) ∷ of_stmt (stmt.run_stmt l) ∷ []))
+loop_items p n r old new l e s b is run here does step =
+    items-same p n r old new l is (λ x. then_on (run x) (task_run p n (handler stmt.end_switch)))
+    (λ m i held. loop-ends p n l e s b (config_of old m i) here ∙ ap (λ z. then_on z (task_run p n (handler stmt.end_switch))) (does m i held)) step
 
 -- ---- a variable that comes into scope
 

@@ -20,3 +20,4 @@ mod Evaluated
 mod Performed
 mod Items
 mod Unknown
+mod Next

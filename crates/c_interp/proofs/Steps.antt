@@ -12,6 +12,7 @@ use Rattle.c_interp_store.specs.Holding.{Opened, Holds}
 use Rattle.c_mean.specs.Statements.{normal}
 use Rattle.c_interp_def.specs.Configurations.{Configuration, Reached, reaches, with_operands}
 use Rattle.c_interp_def.specs.Laws.{normally}
+use Rattle.c_interp_def.specs.CallLaws.{IsHeardAs}
 use Rattle.c_interp_def.specs.declared.task.Task.{Task as Left}
 use Rattle.c_interp_def.specs.StmtTasks.{Task, tasks_run}
 use Rattle.c_interp_expand.specs.TaskViews.{task_of, tasks_of, flow_of}
@@ -178,6 +179,37 @@ moved p n (Err s) old mid new run run' tasks at step =
     λ m held i.
     let (k, held', does) = at m held in
     stopped-same new.status s (run (config_of old m i)) (run' (config_of mid k i)) (does i) (step k held' i)
+
+-- the run ends so where the same is heard of it
+pub stopped-heard : (status : ℕ) (s : Stop) (a b : Answer Reached) (next : Reached → Answer Reached) → ((rest : Reached → Answer Reached) → IsHeardAs (then_on a rest) (then_on b (λ r. then_on (next r) rest))) →
+    IsStopped status s b → IsStopped status s a
+stopped-heard status stop.Exit a b next e h = λ rest j o. e rest j o ∙ h (λ r. then_on (next r) rest) j o
+stopped-heard status stop.Cut a b next e h = λ rest j o. e rest j o ∙ h (λ r. then_on (next r) rest) j o
+stopped-heard status stop.Undefined a b next e h = λ rest j o. e rest j o ∙ h (λ r. then_on (next r) rest) j o
+stopped-heard status stop.ReadFault a b next e h = h
+stopped-heard status stop.WriteFault a b next e h = h
+stopped-heard status stop.NoMemory a b next e h = tt
+
+-- a machine that has moved before it does what is heard as what is left of the task
+pub moved_heard : (p : ProgramTree) (n : ℕ) (r : Result Unit Stop) (old mid new : Machine) (run run' : Configuration → Answer Reached) →
+    ((m : Memory) → IsHeld p old m →
+    (k : Memory) × (mid.tasks ≡ old.tasks) × IsHeld p mid k × ((i : List ℕ) (rest : Reached → Answer Reached) → IsHeardAs (then_on (run (config_of old m i)) rest) (then_on (run' (config_of mid k i)) rest))) →
+    IsStep p n r mid new run' → IsStep p n r old new run
+moved_heard p n (Ok u) old mid new run run' at step =
+    λ m held.
+    let (k, tasks, held', does) = at m held in
+    let d : IsDone p n mid new (λ i. run' (config_of mid k i)) = step k held' in
+    record {
+      put = d.put;
+      tasks = d.tasks ∙ ap (λ ts. tasks_of ts.items ++ d.put) tasks;
+      memory = d.memory;
+      held = d.held;
+      same = λ i rest j o. does i rest j o ∙ d.same i rest j o;
+    }
+moved_heard p n (Err s) old mid new run run' at step =
+    λ m held i.
+    let (k, tasks, held', does) = at m held in
+    stopped-heard new.status s (run (config_of old m i)) (run' (config_of mid k i)) (λ r. Returned r []) (does i) (step k held' i)
 
 pub nothing_step : (p : ProgramTree) (n : ℕ) (u : Unit) (m : Machine) → m.flow ≡ Normal → IsStep p n (Ok u) m m nothing_run
 nothing_step p n u m e k held = done_at_once p n m m (λ i. nothing_run (config_of m k i)) k refl held (λ i. ap (λ f. reaches (flow_of f) (config_of m k i)) (sym e))

@@ -1,18 +1,21 @@
 -- Expressions and places that are not known at once: each becomes the task of its operator, and its operands come first.
-use Rattle.std.proofs.Common.{Vec, Global, ◌≡◌, ℕ, Bool, true, false, if◌then◌else◌, List, [], ◌∷◌, ◌++◌, refl, sym, ap, ◌∙◌}
+use Rattle.std.proofs.Common.{Vec, Global, ◌≡◌, ℕ, not, Bool, true, false, if◌then◌else◌, List, [], ◌∷◌, ◌++◌, refl, sym, ap, ◌∙◌}
 use Rattle.std.specs.Prelude.{Option, None, Some, slice_get, slice_set, Result, Err}
 use Rattle.val_core.specs.declared.values.Value.{Value}
 use Rattle.val_core.specs.declared.values.Value.TheVariants.{Num, At, Bad}
 use Rattle.val_core.specs.Memory.{Memory, load}
 use Rattle.val_core.specs.Answers.{Answer, Undefined, then_on, on_defined}
+use Rattle.val_core.specs.Words.{one_if}
+use Rattle.val_core.proofs.lemmas.Answers.{then_associates, then_on_given}
 use Rattle.c_type.specs.Trees.{TypeTree}
 use Rattle.c_typed.specs.declared.operator.UnaryOp.{UnaryOp}
+use Rattle.c_typed.specs.declared.operator.UnaryOp.TheVariants as unary_op
 use Rattle.c_typed.specs.declared.operator.IncDec.{IncDec}
 use Rattle.c_typed.specs.Typed as tree
 use Rattle.c_typed.specs.Typed.{ExprTree, expr, ExprTrees, PlaceTree, place, PlaceFormTree, ProgramTree}
 use Rattle.c_typed.specs.WellTyped.{type_of}
 use Rattle.c_typed.specs.Objects.{access_width}
-use Rattle.c_mean.specs.State.{holds, truth}
+use Rattle.c_mean.specs.State.{holds, State, Valued, truth}
 use Rattle.c_mean.specs.Expressions.{address_of, given_word, branched, expr_run}
 use Rattle.c_interp_store.specs.Holding.{Opened, Holds}
 use Rattle.c_interp_value.specs.Operators.{used_value}
@@ -80,6 +83,33 @@ module _ (p : ProgramTree) (n : ℕ) (r : Result Unit Stop) (old new : Machine) 
   tested_put b w is step =
       same_step p n r old new (tested_run p n b) (λ x. then_on (expr_task_run p n (task.evaluate b) x) (task_run p n w))
       (λ m i held. ap (λ z. then_on (expr_task_run p n (task.evaluate b) (config_of old m i)) (task_run p n z)) (sym is)) step
+
+  -- the value of `!` is its truth
+  bit-tested : (o : Option Bool) (s : State) (x : Configuration) →
+      then_on (on_defined o (λ d. given_word s (one_if (not d)))) (λ r. then_on (branched t r.value (given_word r.state 1) (given_word r.state 0)) (gives_value x))
+      ≡ then_on (on_defined o (λ d. given_word s (one_if (not d)))) (gives_value x)
+  bit-tested None s x = refl
+  bit-tested (Some true) s x = refl
+  bit-tested (Some false) s x = refl
+
+  not-tested : (a : ExprTree) (x : Configuration) → let b : ExprTree = expr t (tree.unary unary_op.LogicalNot a) in tested_run p n b x ≡ expr_task_run p n (task.evaluate b) x
+  not-tested a x =
+      let b : ExprTree = expr t (tree.unary unary_op.LogicalNot a) in
+      let first : Answer Valued = expr_run (context p n x) a (state_of x) in
+      let negated : Valued → Answer Valued = λ y. on_defined (truth (type_of a) y.value) (λ d. given_word y.state (one_if (not d))) in
+      let test : Valued → Answer Reached = λ r. then_on (branched t r.value (given_word r.state 1) (given_word r.state 0)) (gives_value x) in
+      sym (tested p n (context p n x) b x)
+      ∙ then_associates first negated test
+      ∙ then_on_given first (λ y. then_on (negated y) test) (λ y. then_on (negated y) (gives_value x)) (λ y o e. bit-tested (truth (type_of a) y.value) y.state x)
+      ∙ sym (then_associates first negated (gives_value x))
+
+  pub not_tested : (a b : ExprTree) → b ≡ expr t (tree.unary unary_op.LogicalNot a) → IsStep p n r old new (expr_task_run p n (task.evaluate b)) → IsStep p n r old new (tested_run p n b)
+  not_tested a b is step =
+      same_step p n r old new (tested_run p n b) (expr_task_run p n (task.evaluate b))
+      (λ m i held.
+      let x : Configuration = config_of old m i in
+      ap (λ z. tested_run p n z x) is ∙ not-tested a x ∙ ap (λ z. expr_task_run p n (task.evaluate z) x) (sym is))
+      step
 
   and-known : (a b : ExprTree) (d : Bool) (x : Configuration) → HasTruth (context p n x) a (state_of x) d →
       expr_task_run p n (task.evaluate (expr t (tree.logical_and a b))) x ≡ (if d then tested_run p n b x else give_run (Some (Num 0)) x)

@@ -18,7 +18,7 @@ use Rattle.c_mean.specs.Expressions.{branched}
 use Rattle.c_mean.specs.Statements.{Flow, normal, returned}
 use Rattle.c_interp_def.specs.Configurations.{Configuration, Reached, reaches, with_slots, with_operands, on_operand}
 use Rattle.c_interp_def.specs.ExprTasks.{evaluate, pass_each, use_it, test}
-use Rattle.c_interp_def.specs.StmtTasks.{Task, of_expr, of_stmt, handler, run_items, end_scope, value_tasks, task_run, tasks_run}
+use Rattle.c_interp_def.specs.StmtTasks.{Task, of_expr, of_stmt, handler, run_items, end_scope, end_switch, value_tasks, task_run, tasks_run}
 use Rattle.c_interp_def.specs.declared.task.Flow.TheVariants.{Normal}
 use Rattle.c_interp_def.specs.Laws.{normally, tasks_or_cut}
 use Rattle.c_interp_def.specs.CallLaws.{IsHeardAs}
@@ -120,6 +120,10 @@ declared x = with_frame_slots x (x.frame.slots ++ holds Bad ∷ [])
 abbrev pub declared_do : ProgramTree → (bound : ℕ) → InitialTree → ItemTrees → Configuration → Answer Reached
 declared_do p n i is x =
     then_on (tasks_do p n (of_stmt (run_items is) ∷ value_tasks i) (declared x)) (task_run p n (handler (end_scope (length x.frame.slots))))
+
+-- this of a loop, then its end, and then these items
+abbrev pub loop_then : ProgramTree → (bound : ℕ) → ItemTrees → (Configuration → Answer Reached) → Configuration → Answer Reached
+loop_then p n is run x = then_on (then_on (run x) (task_run p n (handler end_switch))) (task_run p n (of_stmt (run_items is)))
 
 -- The machine did this and put no task, or it stays as it was.
 pub record IsMoved (p : ProgramTree) (n : ℕ) (old new : Machine) (run : Configuration → Answer Reached) : Type 0 where

@@ -27,11 +27,11 @@ use c_type::CType;
 use val_core::Value;
 
 // The slot of a variable of a function as it comes into scope.
-fn slot_begun<'a>(program: Program<'a>, function: u32, variable: u32) -> Option<Slot>
-    requires laid { IsLaid program.typed.now program.layouts.now }
+fn slot_begun<'a>(program: &Program<'a>, function: u32, variable: u32) -> Option<Slot>
+    requires laid { IsLaid program.now.typed.now program.now.layouts.now }
     ensures { option_map slot_of result
-        ≡ slot_begun (variables_of program.entry.typed.now function) variable
-        (slice_get (variables_of program.entry.typed.now function) variable) }
+        ≡ slot_begun (variables_of program.now.typed.now function) variable
+        (slice_get (variables_of program.now.typed.now function) variable) }
 {
     let numbers = numbers(program, function);
     match variables(program, function).get(variable as usize) {
@@ -42,9 +42,9 @@ fn slot_begun<'a>(program: Program<'a>, function: u32, variable: u32) -> Option<
 }
 
 /// Whether this is a variable of a function that is no object.
-pub(crate) fn is_value<'a>(program: Program<'a>, function: u32, variable: u32) -> bool
-    requires laid { IsLaid program.typed.now program.layouts.now }
-    ensures { result ≡ is_value (slice_get (variables_of program.entry.typed.now function) variable) }
+pub(crate) fn is_value<'a>(program: &Program<'a>, function: u32, variable: u32) -> bool
+    requires laid { IsLaid program.now.typed.now program.now.layouts.now }
+    ensures { result ≡ is_value (slice_get (variables_of program.now.typed.now function) variable) }
 {
     match variables(program, function).get(variable as usize) {
         Some(v) => !v.is_object,
@@ -55,13 +55,13 @@ pub(crate) fn is_value<'a>(program: Program<'a>, function: u32, variable: u32) -
 /// A variable comes into scope.
 pub(crate) fn enter<'a>(
     machine: &mut Machine<'a>,
-    program: Program<'a>,
+    program: &Program<'a>,
     variable: u32,
 ) -> Result<(), Stop>
-    requires laid { IsLaid program.typed.now program.layouts.now }
+    requires laid { IsLaid program.now.typed.now program.now.layouts.now }
     requires normal { machine.old.flow ≡ Normal }
-    ensures { (n : ℕ) → IsStep program.entry.typed.now n result machine.old machine.new
-        (stmt_task_run program.entry.typed.now n (stmt.enter variable)) }
+    ensures { (n : ℕ) → IsStep program.now.typed.now n result machine.old machine.new
+        (stmt_task_run program.now.typed.now n (stmt.enter variable)) }
 {
     let Some(slot) = slot_begun(program, machine.frame.function, variable) else {
         return Err(Stop::Undefined);
@@ -90,14 +90,14 @@ pub(crate) fn begin_slot(machine: &mut Machine) -> Result<(), Stop>
 /// The object of this number takes the newest operand.
 pub(crate) fn begin_object<'a>(
     machine: &mut Machine<'a>,
-    program: Program<'a>,
+    program: &Program<'a>,
     number: u32,
     t: &CType,
 ) -> Result<(), Stop>
-    requires laid { IsLaid program.typed.now program.layouts.now }
+    requires laid { IsLaid program.now.typed.now program.now.layouts.now }
     requires normal { machine.old.flow ≡ Normal }
-    ensures { (n : ℕ) → IsStep program.entry.typed.now n result machine.old machine.new
-        (stmt_task_run program.entry.typed.now n (stmt.begin_object number t.now)) }
+    ensures { (n : ℕ) → IsStep program.now.typed.now n result machine.old machine.new
+        (stmt_task_run program.now.typed.now n (stmt.begin_object number t.now)) }
 {
     let Some(v) = machine.operands.pop() else {
         return Err(Stop::Undefined);
@@ -109,13 +109,13 @@ pub(crate) fn begin_object<'a>(
 /// The object of this number becomes 0.
 pub(crate) fn clear_object<'a>(
     machine: &mut Machine<'a>,
-    program: Program<'a>,
+    program: &Program<'a>,
     number: u32,
 ) -> Result<(), Stop>
-    requires laid { IsLaid program.typed.now program.layouts.now }
+    requires laid { IsLaid program.now.typed.now program.now.layouts.now }
     requires normal { machine.old.flow ≡ Normal }
-    ensures { (n : ℕ) → IsStep program.entry.typed.now n result machine.old machine.new
-        (stmt_task_run program.entry.typed.now n (stmt.clear_object number)) }
+    ensures { (n : ℕ) → IsStep program.now.typed.now n result machine.old machine.new
+        (stmt_task_run program.now.typed.now n (stmt.clear_object number)) }
 {
     let at = object_at(machine, program, number);
     if machine.store.clear(at) {
@@ -141,15 +141,15 @@ fn bytes_into(at: Value, bytes: u32) -> Option<Value>
 /// The bytes of the object of this number from an offset on take the newest operand.
 pub(crate) fn begin_element<'a>(
     machine: &mut Machine<'a>,
-    program: Program<'a>,
+    program: &Program<'a>,
     number: u32,
     offset: u32,
     t: &CType,
 ) -> Result<(), Stop>
-    requires laid { IsLaid program.typed.now program.layouts.now }
+    requires laid { IsLaid program.now.typed.now program.now.layouts.now }
     requires normal { machine.old.flow ≡ Normal }
-    ensures { (n : ℕ) → IsStep program.entry.typed.now n result machine.old machine.new
-        (stmt_task_run program.entry.typed.now n (stmt.begin_element number offset t.now)) }
+    ensures { (n : ℕ) → IsStep program.now.typed.now n result machine.old machine.new
+        (stmt_task_run program.now.typed.now n (stmt.begin_element number offset t.now)) }
 {
     let Some(v) = machine.operands.pop() else {
         return Err(Stop::Undefined);
@@ -189,15 +189,15 @@ fn store_characters(
 /// Characters begin the object of this number from an offset on.
 pub(crate) fn begin_characters<'a>(
     machine: &mut Machine<'a>,
-    program: Program<'a>,
+    program: &Program<'a>,
     number: u32,
     offset: u32,
     characters: &'a Bytes,
 ) -> Result<(), Stop>
-    requires laid { IsLaid program.typed.now program.layouts.now }
+    requires laid { IsLaid program.now.typed.now program.now.layouts.now }
     requires normal { machine.old.flow ≡ Normal }
-    ensures { (n : ℕ) → IsStep program.entry.typed.now n result machine.old machine.new
-        (stmt_task_run program.entry.typed.now n (stmt.begin_characters number offset characters.now)) }
+    ensures { (n : ℕ) → IsStep program.now.typed.now n result machine.old machine.new
+        (stmt_task_run program.now.typed.now n (stmt.begin_characters number offset characters.now)) }
 {
     let object = object_at(machine, program, number);
     store_characters(&mut machine.store, object, offset, characters.as_slice())

@@ -39,13 +39,13 @@ const DEPTH: u32 = 8;
 /// An expression.
 pub(crate) fn evaluate<'a>(
     machine: &mut Machine<'a>,
-    program: Program<'a>,
+    program: &Program<'a>,
     e: &'a TExpr,
 ) -> Result<(), Stop>
-    requires laid { IsLaid program.typed.now program.layouts.now }
+    requires laid { IsLaid program.now.typed.now program.now.layouts.now }
     requires normal { machine.old.flow ≡ Normal }
-    ensures { (n : ℕ) → IsStep program.entry.typed.now n result machine.old machine.new
-        (expr_task_run program.entry.typed.now n (task.evaluate e.now)) }
+    ensures { (n : ℕ) → IsStep program.now.typed.now n result machine.old machine.new
+        (expr_task_run program.now.typed.now n (task.evaluate e.now)) }
 {
     evaluate_to(machine, program, e, DEPTH)
 }
@@ -53,13 +53,13 @@ pub(crate) fn evaluate<'a>(
 /// An expression that is not known at once.
 pub(crate) fn evaluate_unknown<'a>(
     machine: &mut Machine<'a>,
-    program: Program<'a>,
+    program: &Program<'a>,
     e: &'a TExpr,
 ) -> Result<(), Stop>
-    requires laid { IsLaid program.typed.now program.layouts.now }
+    requires laid { IsLaid program.now.typed.now program.now.layouts.now }
     requires normal { machine.old.flow ≡ Normal }
-    ensures { (n : ℕ) → IsStep program.entry.typed.now n result machine.old machine.new
-        (expr_task_run program.entry.typed.now n (task.evaluate e.now)) }
+    ensures { (n : ℕ) → IsStep program.now.typed.now n result machine.old machine.new
+        (expr_task_run program.now.typed.now n (task.evaluate e.now)) }
 {
     unknown_to(machine, program, e, DEPTH)
 }
@@ -67,13 +67,13 @@ pub(crate) fn evaluate_unknown<'a>(
 /// A place, whose address becomes an operand.
 pub(crate) fn locate<'a>(
     machine: &mut Machine<'a>,
-    program: Program<'a>,
+    program: &Program<'a>,
     q: &'a TPlace,
 ) -> Result<(), Stop>
-    requires laid { IsLaid program.typed.now program.layouts.now }
+    requires laid { IsLaid program.now.typed.now program.now.layouts.now }
     requires normal { machine.old.flow ≡ Normal }
-    ensures { (n : ℕ) → IsStep program.entry.typed.now n result machine.old machine.new
-        (expr_task_run program.entry.typed.now n (task.locate q.now)) }
+    ensures { (n : ℕ) → IsStep program.now.typed.now n result machine.old machine.new
+        (expr_task_run program.now.typed.now n (task.locate q.now)) }
 {
     locate_to(machine, program, q, DEPTH)
 }
@@ -81,21 +81,21 @@ pub(crate) fn locate<'a>(
 /// Arguments, which become operands.
 pub(crate) fn pass_each<'a>(
     machine: &mut Machine<'a>,
-    program: Program<'a>,
+    program: &Program<'a>,
     es: &'a [TExpr],
 ) -> Result<(), Stop>
-    requires laid { IsLaid program.typed.now program.layouts.now }
+    requires laid { IsLaid program.now.typed.now program.now.layouts.now }
     requires normal { machine.old.flow ≡ Normal }
-    ensures { (n : ℕ) → IsStep program.entry.typed.now n result machine.old machine.new
-        (expr_task_run program.entry.typed.now n (task.pass_each (exprs_of es.now))) }
+    ensures { (n : ℕ) → IsStep program.now.typed.now n result machine.old machine.new
+        (expr_task_run program.now.typed.now n (task.pass_each (exprs_of es.now))) }
 {
     pass_to(machine, program, es, DEPTH)
 }
 
 // The value of an expression that may be known by its form.
-fn answered<'a>(machine: &Machine<'a>, program: Program<'a>, e: &TExpr) -> Option<Value>
-    requires laid { IsLaid program.typed.now program.layouts.now }
-    ensures { (n : ℕ) → Knows program.entry.typed.now n machine.now
+fn answered<'a>(machine: &Machine<'a>, program: &Program<'a>, e: &TExpr) -> Option<Value>
+    requires laid { IsLaid program.now.typed.now program.now.layouts.now }
+    ensures { (n : ℕ) → Knows program.now.typed.now n machine.now
         (λ c s. IsValue c e.now s result) }
 {
     match &e.form {
@@ -112,14 +112,14 @@ fn answered<'a>(machine: &Machine<'a>, program: Program<'a>, e: &TExpr) -> Optio
 #[cycle(evaluate)]
 fn evaluate_to<'a>(
     machine: &mut Machine<'a>,
-    program: Program<'a>,
+    program: &Program<'a>,
     e: &'a TExpr,
     depth: u32,
 ) -> Result<(), Stop>
-    requires laid { IsLaid program.typed.now program.layouts.now }
+    requires laid { IsLaid program.now.typed.now program.now.layouts.now }
     requires normal { machine.old.flow ≡ Normal }
-    ensures { (n : ℕ) → IsStep program.entry.typed.now n result machine.old machine.new
-        (expr_task_run program.entry.typed.now n (task.evaluate e.now)) }
+    ensures { (n : ℕ) → IsStep program.now.typed.now n result machine.old machine.new
+        (expr_task_run program.now.typed.now n (task.evaluate e.now)) }
 {
     match answered(machine, program, e) {
         Some(v) => give_value(machine, v),
@@ -131,14 +131,14 @@ fn evaluate_to<'a>(
 #[cycle(evaluate)]
 fn unknown_to<'a>(
     machine: &mut Machine<'a>,
-    program: Program<'a>,
+    program: &Program<'a>,
     e: &'a TExpr,
     depth: u32,
 ) -> Result<(), Stop>
-    requires laid { IsLaid program.typed.now program.layouts.now }
+    requires laid { IsLaid program.now.typed.now program.now.layouts.now }
     requires normal { machine.old.flow ≡ Normal }
-    ensures { (n : ℕ) → IsStep program.entry.typed.now n result machine.old machine.new
-        (expr_task_run program.entry.typed.now n (task.evaluate e.now)) }
+    ensures { (n : ℕ) → IsStep program.now.typed.now n result machine.old machine.new
+        (expr_task_run program.now.typed.now n (task.evaluate e.now)) }
 {
     if depth == 0 {
         return expand(machine, e);
@@ -225,16 +225,16 @@ fn operated(store: &Store, op: BinaryOp, a: &TExpr, b: &TExpr, x: Value, y: Valu
 #[cycle(evaluate)]
 fn unary_to<'a>(
     machine: &mut Machine<'a>,
-    program: Program<'a>,
+    program: &Program<'a>,
     op: UnaryOp,
     t: &'a CType,
     a: &'a TExpr,
     depth: u32,
 ) -> Result<(), Stop>
-    requires laid { IsLaid program.typed.now program.layouts.now }
+    requires laid { IsLaid program.now.typed.now program.now.layouts.now }
     requires normal { machine.old.flow ≡ Normal }
-    ensures { (n : ℕ) → IsStep program.entry.typed.now n result machine.old machine.new
-        (expr_task_run program.entry.typed.now n
+    ensures { (n : ℕ) → IsStep program.now.typed.now n result machine.old machine.new
+        (expr_task_run program.now.typed.now n
         (task.evaluate (expr t.now (unary op a.now)))) }
 {
     machine.tasks.push(unary_task(op, t, a))?;
@@ -243,17 +243,18 @@ fn unary_to<'a>(
 
 // `&&`, of which the operands are looked into so deep.
 #[cycle(evaluate)]
+#[inline(never)]
 fn and_to<'a>(
     machine: &mut Machine<'a>,
-    program: Program<'a>,
+    program: &Program<'a>,
     a: &'a TExpr,
     b: &'a TExpr,
     depth: u32,
 ) -> Result<(), Stop>
-    requires laid { IsLaid program.typed.now program.layouts.now }
+    requires laid { IsLaid program.now.typed.now program.now.layouts.now }
     requires normal { machine.old.flow ≡ Normal }
-    ensures { (t : TypeTree) (n : ℕ) → IsStep program.entry.typed.now n result machine.old machine.new
-        (expr_task_run program.entry.typed.now n
+    ensures { (t : TypeTree) (n : ℕ) → IsStep program.now.typed.now n result machine.old machine.new
+        (expr_task_run program.now.typed.now n
         (task.evaluate (expr t (logical_and a.now b.now)))) }
 {
     match known_truth(machine, program, a) {
@@ -268,17 +269,18 @@ fn and_to<'a>(
 
 // `||`, of which the operands are looked into so deep.
 #[cycle(evaluate)]
+#[inline(never)]
 fn or_to<'a>(
     machine: &mut Machine<'a>,
-    program: Program<'a>,
+    program: &Program<'a>,
     a: &'a TExpr,
     b: &'a TExpr,
     depth: u32,
 ) -> Result<(), Stop>
-    requires laid { IsLaid program.typed.now program.layouts.now }
+    requires laid { IsLaid program.now.typed.now program.now.layouts.now }
     requires normal { machine.old.flow ≡ Normal }
-    ensures { (t : TypeTree) (n : ℕ) → IsStep program.entry.typed.now n result machine.old machine.new
-        (expr_task_run program.entry.typed.now n
+    ensures { (t : TypeTree) (n : ℕ) → IsStep program.now.typed.now n result machine.old machine.new
+        (expr_task_run program.now.typed.now n
         (task.evaluate (expr t (logical_or a.now b.now)))) }
 {
     match known_truth(machine, program, a) {
@@ -291,37 +293,80 @@ fn or_to<'a>(
     }
 }
 
-// An expression, which is looked into so deep, and of which the truth becomes an operand.
+// An expression that is not known at once, which is looked into so deep, and of which the truth
+// becomes an operand.
 #[cycle(evaluate)]
 fn test_to<'a>(
     machine: &mut Machine<'a>,
-    program: Program<'a>,
+    program: &Program<'a>,
     b: &'a TExpr,
     depth: u32,
 ) -> Result<(), Stop>
-    requires laid { IsLaid program.typed.now program.layouts.now }
+    requires laid { IsLaid program.now.typed.now program.now.layouts.now }
     requires normal { machine.old.flow ≡ Normal }
-    ensures { (n : ℕ) → IsStep program.entry.typed.now n result machine.old machine.new
-        (tested_run program.entry.typed.now n b.now) }
+    ensures { (n : ℕ) → IsStep program.now.typed.now n result machine.old machine.new
+        (tested_run program.now.typed.now n b.now) }
+{
+    match &b.form {
+        ExprForm::Unary(op, a) => test_unary(machine, program, *op, b, a, depth),
+        _ => test_later(machine, program, b, depth),
+    }
+}
+
+// The same of a unary operator: the truth of `!` is its value.
+#[cycle(evaluate)]
+fn test_unary<'a>(
+    machine: &mut Machine<'a>,
+    program: &Program<'a>,
+    op: UnaryOp,
+    b: &'a TExpr,
+    a: &TExpr,
+    depth: u32,
+) -> Result<(), Stop>
+    requires laid { IsLaid program.now.typed.now program.now.layouts.now }
+    requires normal { machine.old.flow ≡ Normal }
+    requires is { b.now ≡ expr (type_of b.now) (unary op a.now) }
+    ensures { (n : ℕ) → IsStep program.now.typed.now n result machine.old machine.new
+        (tested_run program.now.typed.now n b.now) }
+{
+    match op {
+        UnaryOp::LogicalNot => unknown_to(machine, program, b, depth),
+        _ => test_later(machine, program, b, depth),
+    }
+}
+
+// The same, where the value is tested.
+#[cycle(evaluate)]
+fn test_later<'a>(
+    machine: &mut Machine<'a>,
+    program: &Program<'a>,
+    b: &'a TExpr,
+    depth: u32,
+) -> Result<(), Stop>
+    requires laid { IsLaid program.now.typed.now program.now.layouts.now }
+    requires normal { machine.old.flow ≡ Normal }
+    ensures { (n : ℕ) → IsStep program.now.typed.now n result machine.old machine.new
+        (tested_run program.now.typed.now n b.now) }
 {
     machine.tasks.push(test_task(b))?;
-    evaluate_to(machine, program, b, depth)
+    unknown_to(machine, program, b, depth)
 }
 
 // `?:`, of which the condition is looked into so deep, and the operand that is chosen.
 #[cycle(evaluate)]
+#[inline(never)]
 fn choose_to<'a>(
     machine: &mut Machine<'a>,
-    program: Program<'a>,
+    program: &Program<'a>,
     d: &'a TExpr,
     a: &'a TExpr,
     b: &'a TExpr,
     depth: u32,
 ) -> Result<(), Stop>
-    requires laid { IsLaid program.typed.now program.layouts.now }
+    requires laid { IsLaid program.now.typed.now program.now.layouts.now }
     requires normal { machine.old.flow ≡ Normal }
-    ensures { (t : TypeTree) (n : ℕ) → IsStep program.entry.typed.now n result machine.old machine.new
-        (expr_task_run program.entry.typed.now n
+    ensures { (t : TypeTree) (n : ℕ) → IsStep program.now.typed.now n result machine.old machine.new
+        (expr_task_run program.now.typed.now n
         (task.evaluate (expr t (conditional d.now a.now b.now)))) }
 {
     match known_truth(machine, program, d) {
@@ -336,18 +381,19 @@ fn choose_to<'a>(
 
 // A binary operator, of which the operands are looked into so deep.
 #[cycle(evaluate)]
+#[inline(never)]
 fn operate_to<'a>(
     machine: &mut Machine<'a>,
-    program: Program<'a>,
+    program: &Program<'a>,
     op: BinaryOp,
     a: &'a TExpr,
     b: &'a TExpr,
     depth: u32,
 ) -> Result<(), Stop>
-    requires laid { IsLaid program.typed.now program.layouts.now }
+    requires laid { IsLaid program.now.typed.now program.now.layouts.now }
     requires normal { machine.old.flow ≡ Normal }
-    ensures { (t : TypeTree) (n : ℕ) → IsStep program.entry.typed.now n result machine.old machine.new
-        (expr_task_run program.entry.typed.now n
+    ensures { (t : TypeTree) (n : ℕ) → IsStep program.now.typed.now n result machine.old machine.new
+        (expr_task_run program.now.typed.now n
         (task.evaluate (expr t (binary op a.now b.now)))) }
 {
     match known(machine, program, a) {
@@ -364,19 +410,19 @@ fn operate_to<'a>(
 #[cycle(evaluate)]
 fn operate_on<'a>(
     machine: &mut Machine<'a>,
-    program: Program<'a>,
+    program: &Program<'a>,
     op: BinaryOp,
     x: Value,
     a: &'a TExpr,
     b: &'a TExpr,
     depth: u32,
 ) -> Result<(), Stop>
-    requires laid { IsLaid program.typed.now program.layouts.now }
+    requires laid { IsLaid program.now.typed.now program.now.layouts.now }
     requires normal { machine.old.flow ≡ Normal }
-    requires known { (n : ℕ) → Knows program.typed.now n machine.old
+    requires known { (n : ℕ) → Knows program.now.typed.now n machine.old
         (λ c s. IsValue c a.now s (Some x)) }
-    ensures { (t : TypeTree) (n : ℕ) → IsStep program.entry.typed.now n result machine.old machine.new
-        (expr_task_run program.entry.typed.now n
+    ensures { (t : TypeTree) (n : ℕ) → IsStep program.now.typed.now n result machine.old machine.new
+        (expr_task_run program.now.typed.now n
         (task.evaluate (expr t (binary op a.now b.now)))) }
 {
     match known(machine, program, b) {
@@ -396,15 +442,15 @@ fn operate_on<'a>(
 #[cycle(evaluate)]
 fn call_to<'a>(
     machine: &mut Machine<'a>,
-    program: Program<'a>,
+    program: &Program<'a>,
     f: u32,
     es: &'a [TExpr],
     depth: u32,
 ) -> Result<(), Stop>
-    requires laid { IsLaid program.typed.now program.layouts.now }
+    requires laid { IsLaid program.now.typed.now program.now.layouts.now }
     requires normal { machine.old.flow ≡ Normal }
-    ensures { (t : TypeTree) (n : ℕ) → IsStep program.entry.typed.now n result machine.old machine.new
-        (expr_task_run program.entry.typed.now n
+    ensures { (t : TypeTree) (n : ℕ) → IsStep program.now.typed.now n result machine.old machine.new
+        (expr_task_run program.now.typed.now n
         (task.evaluate (expr t (call f (exprs_of es.now))))) }
 {
     machine
@@ -417,14 +463,14 @@ fn call_to<'a>(
 #[cycle(evaluate)]
 fn pass_to<'a>(
     machine: &mut Machine<'a>,
-    program: Program<'a>,
+    program: &Program<'a>,
     es: &'a [TExpr],
     depth: u32,
 ) -> Result<(), Stop>
-    requires laid { IsLaid program.typed.now program.layouts.now }
+    requires laid { IsLaid program.now.typed.now program.now.layouts.now }
     requires normal { machine.old.flow ≡ Normal }
-    ensures { (n : ℕ) → IsStep program.entry.typed.now n result machine.old machine.new
-        (expr_task_run program.entry.typed.now n (task.pass_each (exprs_of es.now))) }
+    ensures { (n : ℕ) → IsStep program.now.typed.now n result machine.old machine.new
+        (expr_task_run program.now.typed.now n (task.pass_each (exprs_of es.now))) }
 {
     match es.split_first() {
         Some((e, rest)) => pass_first(machine, program, e, rest, depth),
@@ -436,15 +482,15 @@ fn pass_to<'a>(
 #[cycle(evaluate)]
 fn pass_first<'a>(
     machine: &mut Machine<'a>,
-    program: Program<'a>,
+    program: &Program<'a>,
     e: &'a TExpr,
     rest: &'a [TExpr],
     depth: u32,
 ) -> Result<(), Stop>
-    requires laid { IsLaid program.typed.now program.layouts.now }
+    requires laid { IsLaid program.now.typed.now program.now.layouts.now }
     requires normal { machine.old.flow ≡ Normal }
-    ensures { (n : ℕ) → IsStep program.entry.typed.now n result machine.old machine.new
-        (passed_then program.entry.typed.now n e.now (exprs_of rest.now)) }
+    ensures { (n : ℕ) → IsStep program.now.typed.now n result machine.old machine.new
+        (passed_then program.now.typed.now n e.now (exprs_of rest.now)) }
 {
     match known(machine, program, e) {
         Some(v) => pass_value(machine, program, v, e, rest, depth),
@@ -456,23 +502,26 @@ fn pass_first<'a>(
 #[cycle(evaluate)]
 fn pass_value<'a>(
     machine: &mut Machine<'a>,
-    program: Program<'a>,
+    program: &Program<'a>,
     v: Value,
     e: &TExpr,
     rest: &'a [TExpr],
     depth: u32,
 ) -> Result<(), Stop>
-    requires laid { IsLaid program.typed.now program.layouts.now }
+    requires laid { IsLaid program.now.typed.now program.now.layouts.now }
     requires normal { machine.old.flow ≡ Normal }
-    requires known { (n : ℕ) → Knows program.typed.now n machine.old
+    requires known { (n : ℕ) → Knows program.now.typed.now n machine.old
         (λ c s. IsValue c e.now s (Some v)) }
-    ensures { (n : ℕ) → IsStep program.entry.typed.now n result machine.old machine.new
-        (passed_then program.entry.typed.now n e.now (exprs_of rest.now)) }
+    ensures { (n : ℕ) → IsStep program.now.typed.now n result machine.old machine.new
+        (passed_then program.now.typed.now n e.now (exprs_of rest.now)) }
 {
     let Some(w) = used(v) else {
         return Err(Stop::Undefined);
     };
     machine.operands.push(w)?;
+    if rest.is_empty() {
+        return Ok(());
+    }
     if depth == 0 {
         return put(machine, Task::OfExpr(ExprTask::PassEach(rest)));
     }
@@ -483,15 +532,15 @@ fn pass_value<'a>(
 #[cycle(evaluate)]
 fn pass_later<'a>(
     machine: &mut Machine<'a>,
-    program: Program<'a>,
+    program: &Program<'a>,
     e: &'a TExpr,
     rest: &'a [TExpr],
     depth: u32,
 ) -> Result<(), Stop>
-    requires laid { IsLaid program.typed.now program.layouts.now }
+    requires laid { IsLaid program.now.typed.now program.now.layouts.now }
     requires normal { machine.old.flow ≡ Normal }
-    ensures { (n : ℕ) → IsStep program.entry.typed.now n result machine.old machine.new
-        (passed_then program.entry.typed.now n e.now (exprs_of rest.now)) }
+    ensures { (n : ℕ) → IsStep program.now.typed.now n result machine.old machine.new
+        (passed_then program.now.typed.now n e.now (exprs_of rest.now)) }
 {
     if rest.is_empty() {
         return pass_one(machine, program, e, depth);
@@ -504,14 +553,14 @@ fn pass_later<'a>(
 #[cycle(evaluate)]
 fn pass_one<'a>(
     machine: &mut Machine<'a>,
-    program: Program<'a>,
+    program: &Program<'a>,
     e: &'a TExpr,
     depth: u32,
 ) -> Result<(), Stop>
-    requires laid { IsLaid program.typed.now program.layouts.now }
+    requires laid { IsLaid program.now.typed.now program.now.layouts.now }
     requires normal { machine.old.flow ≡ Normal }
-    ensures { (n : ℕ) → IsStep program.entry.typed.now n result machine.old machine.new
-        (passed_run program.entry.typed.now n e.now) }
+    ensures { (n : ℕ) → IsStep program.now.typed.now n result machine.old machine.new
+        (passed_run program.now.typed.now n e.now) }
 {
     machine.tasks.push(Task::OfExpr(ExprTask::UseIt))?;
     unknown_to(machine, program, e, depth)
@@ -521,14 +570,14 @@ fn pass_one<'a>(
 #[cycle(evaluate)]
 fn locate_to<'a>(
     machine: &mut Machine<'a>,
-    program: Program<'a>,
+    program: &Program<'a>,
     q: &'a TPlace,
     depth: u32,
 ) -> Result<(), Stop>
-    requires laid { IsLaid program.typed.now program.layouts.now }
+    requires laid { IsLaid program.now.typed.now program.now.layouts.now }
     requires normal { machine.old.flow ≡ Normal }
-    ensures { (n : ℕ) → IsStep program.entry.typed.now n result machine.old machine.new
-        (expr_task_run program.entry.typed.now n (task.locate q.now)) }
+    ensures { (n : ℕ) → IsStep program.now.typed.now n result machine.old machine.new
+        (expr_task_run program.now.typed.now n (task.locate q.now)) }
 {
     match known_address(machine, program, q) {
         Some(at) => give_value(machine, at),
@@ -540,14 +589,14 @@ fn locate_to<'a>(
 #[cycle(evaluate)]
 fn find_to<'a>(
     machine: &mut Machine<'a>,
-    program: Program<'a>,
+    program: &Program<'a>,
     q: &'a TPlace,
     depth: u32,
 ) -> Result<(), Stop>
-    requires laid { IsLaid program.typed.now program.layouts.now }
+    requires laid { IsLaid program.now.typed.now program.now.layouts.now }
     requires normal { machine.old.flow ≡ Normal }
-    ensures { (n : ℕ) → IsStep program.entry.typed.now n result machine.old machine.new
-        (expr_task_run program.entry.typed.now n (task.locate q.now)) }
+    ensures { (n : ℕ) → IsStep program.now.typed.now n result machine.old machine.new
+        (expr_task_run program.now.typed.now n (task.locate q.now)) }
 {
     if depth == 0 {
         return find(machine, q);
@@ -581,41 +630,42 @@ fn find<'a>(machine: &mut Machine<'a>, q: &'a TPlace) -> Result<(), Stop>
 #[cycle(evaluate)]
 fn read_to<'a>(
     machine: &mut Machine<'a>,
-    program: Program<'a>,
+    program: &Program<'a>,
     e: &'a TExpr,
     t: &'a CType,
     p: &'a TPlace,
     depth: u32,
 ) -> Result<(), Stop>
-    requires laid { IsLaid program.typed.now program.layouts.now }
+    requires laid { IsLaid program.now.typed.now program.now.layouts.now }
     requires normal { machine.old.flow ≡ Normal }
     requires is { e.now ≡ expr t.now (read p.now) }
-    ensures { (n : ℕ) → IsStep program.entry.typed.now n result machine.old machine.new
-        (expr_task_run program.entry.typed.now n (task.evaluate e.now)) }
+    ensures { (n : ℕ) → IsStep program.now.typed.now n result machine.old machine.new
+        (expr_task_run program.now.typed.now n (task.evaluate e.now)) }
 {
     match slot_of(machine, p) {
         Some(_) => expand(machine, e),
         None => {
             machine.tasks.push(Task::OfExpr(ExprTask::LoadFrom(t)))?;
-            locate_to(machine, program, p, depth)
+            find_to(machine, program, p, depth)
         }
     }
 }
 
 // An assignment, of which the operands are looked into so deep.
 #[cycle(evaluate)]
+#[inline(never)]
 fn assign_to<'a>(
     machine: &mut Machine<'a>,
-    program: Program<'a>,
+    program: &Program<'a>,
     t: &'a CType,
     p: &'a TPlace,
     a: &'a TExpr,
     depth: u32,
 ) -> Result<(), Stop>
-    requires laid { IsLaid program.typed.now program.layouts.now }
+    requires laid { IsLaid program.now.typed.now program.now.layouts.now }
     requires normal { machine.old.flow ≡ Normal }
-    ensures { (n : ℕ) → IsStep program.entry.typed.now n result machine.old machine.new
-        (expr_task_run program.entry.typed.now n
+    ensures { (n : ℕ) → IsStep program.now.typed.now n result machine.old machine.new
+        (expr_task_run program.now.typed.now n
         (task.evaluate (expr t.now (assign p.now a.now)))) }
 {
     match slot_of(machine, p) {
@@ -631,16 +681,16 @@ fn assign_to<'a>(
 #[cycle(evaluate)]
 fn store_to<'a>(
     machine: &mut Machine<'a>,
-    program: Program<'a>,
+    program: &Program<'a>,
     t: &'a CType,
     p: &'a TPlace,
     a: &'a TExpr,
     depth: u32,
 ) -> Result<(), Stop>
-    requires laid { IsLaid program.typed.now program.layouts.now }
+    requires laid { IsLaid program.now.typed.now program.now.layouts.now }
     requires normal { machine.old.flow ≡ Normal }
-    ensures { (n : ℕ) → IsStep program.entry.typed.now n result machine.old machine.new
-        (tasks_do program.entry.typed.now n (of_expr (task.store_at t.now)
+    ensures { (n : ℕ) → IsStep program.now.typed.now n result machine.old machine.new
+        (tasks_do program.now.typed.now n (of_expr (task.store_at t.now)
         ∷ of_expr (task.evaluate a.now) ∷ of_expr (task.locate p.now) ∷ [])) }
 {
     machine.tasks.push(Task::OfExpr(ExprTask::StoreAt(t)))?;
@@ -657,18 +707,19 @@ fn store_to<'a>(
 }
 
 // `++` or `--`.
+#[inline(never)]
 fn increment<'a>(
     machine: &mut Machine<'a>,
-    program: Program<'a>,
+    program: &Program<'a>,
     e: &'a TExpr,
     step: IncDec,
     p: &'a TPlace,
 ) -> Result<(), Stop>
-    requires laid { IsLaid program.typed.now program.layouts.now }
+    requires laid { IsLaid program.now.typed.now program.now.layouts.now }
     requires normal { machine.old.flow ≡ Normal }
     requires is { e.now ≡ expr (type_of e.now) (inc_dec step p.now) }
-    ensures { (n : ℕ) → IsStep program.entry.typed.now n result machine.old machine.new
-        (expr_task_run program.entry.typed.now n (task.evaluate e.now)) }
+    ensures { (n : ℕ) → IsStep program.now.typed.now n result machine.old machine.new
+        (expr_task_run program.now.typed.now n (task.evaluate e.now)) }
 {
     match known_written(machine, program, e) {
         Some(w) => {
@@ -682,15 +733,15 @@ fn increment<'a>(
 // The same, where it does not assign a known number to a variable.
 fn increment_more<'a>(
     machine: &mut Machine<'a>,
-    program: Program<'a>,
+    program: &Program<'a>,
     t: &'a CType,
     step: IncDec,
     p: &'a TPlace,
 ) -> Result<(), Stop>
-    requires laid { IsLaid program.typed.now program.layouts.now }
+    requires laid { IsLaid program.now.typed.now program.now.layouts.now }
     requires normal { machine.old.flow ≡ Normal }
-    ensures { (n : ℕ) → IsStep program.entry.typed.now n result machine.old machine.new
-        (expr_task_run program.entry.typed.now n (task.evaluate (expr t.now (inc_dec step p.now)))) }
+    ensures { (n : ℕ) → IsStep program.now.typed.now n result machine.old machine.new
+        (expr_task_run program.now.typed.now n (task.evaluate (expr t.now (inc_dec step p.now)))) }
 {
     match slot_of(machine, p) {
         Some(k) => increment_slot(machine, t, step, p, k),
@@ -721,15 +772,15 @@ fn increment_slot<'a>(
 // The same of an object.
 fn increment_at<'a>(
     machine: &mut Machine<'a>,
-    program: Program<'a>,
+    program: &Program<'a>,
     t: &'a CType,
     step: IncDec,
     p: &'a TPlace,
 ) -> Result<(), Stop>
-    requires laid { IsLaid program.typed.now program.layouts.now }
+    requires laid { IsLaid program.now.typed.now program.now.layouts.now }
     requires normal { machine.old.flow ≡ Normal }
-    ensures { (n : ℕ) → IsStep program.entry.typed.now n result machine.old machine.new
-        (tasks_do program.entry.typed.now n (of_expr (task.step_at step t.now)
+    ensures { (n : ℕ) → IsStep program.now.typed.now n result machine.old machine.new
+        (tasks_do program.now.typed.now n (of_expr (task.step_at step t.now)
         ∷ of_expr (task.load_at t.now) ∷ of_expr (task.locate p.now) ∷ [])) }
 {
     match known_address(machine, program, p) {
@@ -746,18 +797,18 @@ fn increment_at<'a>(
 // The same, at this address.
 fn increment_known<'a>(
     machine: &mut Machine<'a>,
-    program: Program<'a>,
+    program: &Program<'a>,
     at: Value,
     t: &'a CType,
     step: IncDec,
     p: &'a TPlace,
 ) -> Result<(), Stop>
-    requires laid { IsLaid program.typed.now program.layouts.now }
+    requires laid { IsLaid program.now.typed.now program.now.layouts.now }
     requires normal { machine.old.flow ≡ Normal }
-    requires known { (n : ℕ) → Knows program.typed.now n machine.old
+    requires known { (n : ℕ) → Knows program.now.typed.now n machine.old
         (λ c s. IsAddress c p.now s (Some at)) }
-    ensures { (n : ℕ) → IsStep program.entry.typed.now n result machine.old machine.new
-        (tasks_do program.entry.typed.now n (of_expr (task.step_at step t.now)
+    ensures { (n : ℕ) → IsStep program.now.typed.now n result machine.old machine.new
+        (tasks_do program.now.typed.now n (of_expr (task.step_at step t.now)
         ∷ of_expr (task.load_at t.now) ∷ of_expr (task.locate p.now) ∷ [])) }
 {
     let Some(old) = loaded(&machine.store, t, at) else {

@@ -17,9 +17,9 @@ use val_core::Value;
 const DEPTH: u32 = 8;
 
 // What an expression is read from, where the machine stands.
-fn scope_of<'b, 'a>(machine: &'b Machine<'a>, program: Program<'b>) -> Scope<'b>
-    requires laid { IsLaid program.typed.now program.layouts.now }
-    ensures { (n : ℕ) → Shows program.entry.typed.now n machine.now result }
+fn scope_of<'b, 'a>(machine: &'b Machine<'a>, program: &Program<'b>) -> Scope<'b>
+    requires laid { IsLaid program.now.typed.now program.now.layouts.now }
+    ensures { (n : ℕ) → Shows program.now.typed.now n machine.now result }
 {
     Scope {
         store: &machine.store,
@@ -31,9 +31,9 @@ fn scope_of<'b, 'a>(machine: &'b Machine<'a>, program: Program<'b>) -> Scope<'b>
 }
 
 /// The value that an expression gives.
-pub(crate) fn known<'a>(machine: &Machine<'a>, program: Program<'a>, e: &TExpr) -> Option<Value>
-    requires laid { IsLaid program.typed.now program.layouts.now }
-    ensures { (n : ℕ) → Knows program.entry.typed.now n machine.now
+pub(crate) fn known<'a>(machine: &Machine<'a>, program: &Program<'a>, e: &TExpr) -> Option<Value>
+    requires laid { IsLaid program.now.typed.now program.now.layouts.now }
+    ensures { (n : ℕ) → Knows program.now.typed.now n machine.now
         (λ c s. IsValue c e.now s result) }
 {
     c_interp_answer::answer(&scope_of(machine, program), e, DEPTH)
@@ -43,11 +43,11 @@ pub(crate) fn known<'a>(machine: &Machine<'a>, program: Program<'a>, e: &TExpr) 
 #[inline(always)]
 pub(crate) fn known_truth<'a>(
     machine: &Machine<'a>,
-    program: Program<'a>,
+    program: &Program<'a>,
     e: &TExpr,
 ) -> Option<bool>
-    requires laid { IsLaid program.typed.now program.layouts.now }
-    ensures { (n : ℕ) → Knows program.entry.typed.now n machine.now
+    requires laid { IsLaid program.now.typed.now program.now.layouts.now }
+    ensures { (n : ℕ) → Knows program.now.typed.now n machine.now
         (λ c s. IsTruth c e.now s result) }
 {
     c_interp_answer::asked(&scope_of(machine, program), e, DEPTH)
@@ -56,11 +56,11 @@ pub(crate) fn known_truth<'a>(
 /// The address of a place.
 pub(crate) fn known_address<'a>(
     machine: &Machine<'a>,
-    program: Program<'a>,
+    program: &Program<'a>,
     p: &TPlace,
 ) -> Option<Value>
-    requires laid { IsLaid program.typed.now program.layouts.now }
-    ensures { (n : ℕ) → Knows program.entry.typed.now n machine.now
+    requires laid { IsLaid program.now.typed.now program.now.layouts.now }
+    ensures { (n : ℕ) → Knows program.now.typed.now n machine.now
         (λ c s. IsAddress c p.now s result) }
 {
     c_interp_answer::address(&scope_of(machine, program), p, DEPTH)
@@ -69,11 +69,11 @@ pub(crate) fn known_address<'a>(
 /// The number that an expression assigns to a variable.
 pub(crate) fn known_written<'a>(
     machine: &Machine<'a>,
-    program: Program<'a>,
+    program: &Program<'a>,
     e: &TExpr,
 ) -> Option<Assignment>
-    requires laid { IsLaid program.typed.now program.layouts.now }
-    ensures { (n : ℕ) → Knows program.entry.typed.now n machine.now
+    requires laid { IsLaid program.now.typed.now program.now.layouts.now }
+    ensures { (n : ℕ) → Knows program.now.typed.now n machine.now
         (λ c s. IsWritten c e.now s result) }
 {
     c_interp_answer::written(&scope_of(machine, program), e, DEPTH)

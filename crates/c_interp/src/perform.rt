@@ -24,13 +24,13 @@ use val_core::Value;
 /// An expression whose value is dropped.
 pub(crate) fn perform<'a>(
     machine: &mut Machine<'a>,
-    program: Program<'a>,
+    program: &Program<'a>,
     e: &'a TExpr,
 ) -> Result<(), Stop>
-    requires laid { IsLaid program.typed.now program.layouts.now }
+    requires laid { IsLaid program.now.typed.now program.now.layouts.now }
     requires normal { machine.old.flow ≡ Normal }
-    ensures { (n : ℕ) → IsStep program.entry.typed.now n result machine.old machine.new
-        (tasks_do program.entry.typed.now n (optional_tasks (some_expr e.now))) }
+    ensures { (n : ℕ) → IsStep program.now.typed.now n result machine.old machine.new
+        (tasks_do program.now.typed.now n (optional_tasks (some_expr e.now))) }
 {
     match performed(machine, program, e) {
         Ok(true) => Ok(()),
@@ -40,17 +40,31 @@ pub(crate) fn perform<'a>(
 }
 
 /// Whether an expression whose value is dropped assigns what is known at once; that is then done,
-/// and else nothing.
+/// and else nothing. A call is not.
 #[inline(always)]
 pub(crate) fn performed<'a>(
     machine: &mut Machine<'a>,
-    program: Program<'a>,
+    program: &Program<'a>,
     e: &'a TExpr,
 ) -> Result<bool, Stop>
-    requires laid { IsLaid program.typed.now program.layouts.now }
+    requires laid { IsLaid program.now.typed.now program.now.layouts.now }
     requires normal { machine.old.flow ≡ Normal }
-    ensures { (n : ℕ) → IsPerformed program.entry.typed.now n result machine.old machine.new
-        (tasks_do program.entry.typed.now n (optional_tasks (some_expr e.now))) }
+    ensures { (n : ℕ) → IsPerformed program.now.typed.now n result machine.old machine.new
+        (tasks_do program.now.typed.now n (optional_tasks (some_expr e.now))) }
+{
+    match &e.form {
+        ExprForm::Call(..) => Ok(false),
+        _ => written(machine, program, e),
+    }
+}
+
+// The same of an expression that is no call.
+#[inline(always)]
+fn written<'a>(machine: &mut Machine<'a>, program: &Program<'a>, e: &'a TExpr) -> Result<bool, Stop>
+    requires laid { IsLaid program.now.typed.now program.now.layouts.now }
+    requires normal { machine.old.flow ≡ Normal }
+    ensures { (n : ℕ) → IsPerformed program.now.typed.now n result machine.old machine.new
+        (tasks_do program.now.typed.now n (optional_tasks (some_expr e.now))) }
 {
     match known_written(machine, program, e) {
         Some(w) => {
@@ -65,13 +79,13 @@ pub(crate) fn performed<'a>(
 #[inline(never)]
 fn performed_more<'a>(
     machine: &mut Machine<'a>,
-    program: Program<'a>,
+    program: &Program<'a>,
     e: &'a TExpr,
 ) -> Result<bool, Stop>
-    requires laid { IsLaid program.typed.now program.layouts.now }
+    requires laid { IsLaid program.now.typed.now program.now.layouts.now }
     requires normal { machine.old.flow ≡ Normal }
-    ensures { (n : ℕ) → IsPerformed program.entry.typed.now n result machine.old machine.new
-        (tasks_do program.entry.typed.now n (optional_tasks (some_expr e.now))) }
+    ensures { (n : ℕ) → IsPerformed program.now.typed.now n result machine.old machine.new
+        (tasks_do program.now.typed.now n (optional_tasks (some_expr e.now))) }
 {
     match &e.form {
         ExprForm::Assign(p, a) => assigned(machine, program, &e.ty, p, a),
@@ -83,15 +97,15 @@ fn performed_more<'a>(
 // An assignment.
 fn assigned<'a>(
     machine: &mut Machine<'a>,
-    program: Program<'a>,
+    program: &Program<'a>,
     t: &CType,
     p: &'a TPlace,
     a: &'a TExpr,
 ) -> Result<bool, Stop>
-    requires laid { IsLaid program.typed.now program.layouts.now }
+    requires laid { IsLaid program.now.typed.now program.now.layouts.now }
     requires normal { machine.old.flow ≡ Normal }
-    ensures { (n : ℕ) → IsPerformed program.entry.typed.now n result machine.old machine.new
-        (tasks_do program.entry.typed.now n (optional_tasks (some_expr (expr t.now (assign p.now a.now))))) }
+    ensures { (n : ℕ) → IsPerformed program.now.typed.now n result machine.old machine.new
+        (tasks_do program.now.typed.now n (optional_tasks (some_expr (expr t.now (assign p.now a.now))))) }
 {
     match slot_of(machine, p) {
         Some(k) => assigned_slot(machine, program, t, p, a, k),
@@ -102,17 +116,17 @@ fn assigned<'a>(
 // The same to the variable at a slot.
 fn assigned_slot<'a>(
     machine: &mut Machine<'a>,
-    program: Program<'a>,
+    program: &Program<'a>,
     t: &CType,
     p: &'a TPlace,
     a: &'a TExpr,
     k: u32,
 ) -> Result<bool, Stop>
-    requires laid { IsLaid program.typed.now program.layouts.now }
+    requires laid { IsLaid program.now.typed.now program.now.layouts.now }
     requires normal { machine.old.flow ≡ Normal }
     requires at { Some k ≡ place_slot (slots_of machine.old.slots.items) p.now }
-    ensures { (n : ℕ) → IsPerformed program.entry.typed.now n result machine.old machine.new
-        (tasks_do program.entry.typed.now n (optional_tasks (some_expr (expr t.now (assign p.now a.now))))) }
+    ensures { (n : ℕ) → IsPerformed program.now.typed.now n result machine.old machine.new
+        (tasks_do program.now.typed.now n (optional_tasks (some_expr (expr t.now (assign p.now a.now))))) }
 {
     let Some(v) = known(machine, program, a) else {
         return Ok(false);
@@ -127,15 +141,15 @@ fn assigned_slot<'a>(
 // The same to an object.
 fn stored<'a>(
     machine: &mut Machine<'a>,
-    program: Program<'a>,
+    program: &Program<'a>,
     t: &CType,
     p: &'a TPlace,
     a: &'a TExpr,
 ) -> Result<bool, Stop>
-    requires laid { IsLaid program.typed.now program.layouts.now }
+    requires laid { IsLaid program.now.typed.now program.now.layouts.now }
     requires normal { machine.old.flow ≡ Normal }
-    ensures { (n : ℕ) → IsPerformed program.entry.typed.now n result machine.old machine.new
-        (tasks_do program.entry.typed.now n (optional_tasks (some_expr (expr t.now (assign p.now a.now))))) }
+    ensures { (n : ℕ) → IsPerformed program.now.typed.now n result machine.old machine.new
+        (tasks_do program.now.typed.now n (optional_tasks (some_expr (expr t.now (assign p.now a.now))))) }
 {
     let Some(at) = known_address(machine, program, p) else {
         return Ok(false);
@@ -175,13 +189,13 @@ fn stepped<'a>(machine: &mut Machine<'a>, t: &CType, step: IncDec, p: &TPlace) -
 /// An expression whose value is dropped and that is not performed at once.
 pub(crate) fn evaluate_and_drop<'a>(
     machine: &mut Machine<'a>,
-    program: Program<'a>,
+    program: &Program<'a>,
     e: &'a TExpr,
 ) -> Result<(), Stop>
-    requires laid { IsLaid program.typed.now program.layouts.now }
+    requires laid { IsLaid program.now.typed.now program.now.layouts.now }
     requires normal { machine.old.flow ≡ Normal }
-    ensures { (n : ℕ) → IsStep program.entry.typed.now n result machine.old machine.new
-        (tasks_do program.entry.typed.now n (optional_tasks (some_expr e.now))) }
+    ensures { (n : ℕ) → IsStep program.now.typed.now n result machine.old machine.new
+        (tasks_do program.now.typed.now n (optional_tasks (some_expr e.now))) }
 {
     machine.tasks.push(Task::OfExpr(ExprTask::Discard))?;
     evaluate_unknown(machine, program, e)

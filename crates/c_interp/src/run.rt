@@ -58,16 +58,16 @@ pub fn interpret<I: Source, O: Sink>(
         layouts: &layouts,
         bound,
     };
-    let mut machine = machine_of(program)?;
-    run(program, &mut machine, input, output)
+    let mut machine = machine_of(&program)?;
+    run(&program, &mut machine, input, output)
 }
 
 // The machine as a program begins.
-fn machine_of<'a>(program: Program<'a>) -> Result<Machine<'a>, NoMemory>
-    requires laid { IsLaid program.typed.now program.layouts.now }
-    requires typed { IsWellTyped program.typed.now }
-    requires most { program.bound ≤ 1000000 }
-    ensures { IfOk result (HasBegun program.entry.typed.now program.entry.bound) }
+fn machine_of<'a>(program: &Program<'a>) -> Result<Machine<'a>, NoMemory>
+    requires laid { IsLaid program.now.typed.now program.now.layouts.now }
+    requires typed { IsWellTyped program.now.typed.now }
+    requires most { program.now.bound ≤ 1000000 }
+    ensures { IfOk result (HasBegun program.now.typed.now program.now.bound) }
 {
     let alloc = program.alloc;
     let typed = program.typed;
@@ -97,20 +97,20 @@ fn machine_of<'a>(program: Program<'a>) -> Result<Machine<'a>, NoMemory>
 
 // Does the tasks that are left, and those that they come to.
 fn run<'a, I: Source, O: Sink>(
-    program: Program<'a>,
+    program: &Program<'a>,
     machine: &mut Machine<'a>,
     input: &mut I,
     output: &mut O,
 ) -> Result<Ending, NoMemory>
-    requires laid { IsLaid program.typed.now program.layouts.now }
-    requires begun { HasBegun program.typed.now program.bound machine.old }
+    requires laid { IsLaid program.now.typed.now program.now.layouts.now }
+    requires begun { HasBegun program.now.typed.now program.now.bound machine.old }
     ensures ends { MatchResult result
-        (HasEnded program.entry.bound program.entry.typed.now
+        (HasEnded program.now.bound program.now.typed.now
         (record { held = O.held output.old; left = I.left input.old })
         (record { held = O.held output.new; left = I.left input.new })
         (Increased (I.faults input.old) (I.faults input.new))
         (Increased (O.faults output.old) (O.faults output.new)))
-        (λ _. IsPart program.entry.bound program.entry.typed.now
+        (λ _. IsPart program.now.bound program.now.typed.now
         (record { held = O.held output.old; left = I.left input.old })
         (record { held = O.held output.new; left = I.left input.new })) }
     ensures read_faults { I.faults input.old ≤ I.faults input.new }

@@ -24,9 +24,9 @@ use c_typed::{ExprForm, Group, Item, StmtForm, TExpr, TStmt, Variable};
 use val_core::Value;
 
 /// The variables of a function; none where there is no function of this number.
-pub(crate) fn variables<'a>(program: Program<'a>, function: u32) -> &'a [Variable]
-    requires laid { IsLaid program.typed.now program.layouts.now }
-    ensures { result.now ≡ variables_of program.entry.typed.now function }
+pub(crate) fn variables<'a>(program: &Program<'a>, function: u32) -> &'a [Variable]
+    requires laid { IsLaid program.now.typed.now program.now.layouts.now }
+    ensures { result.now ≡ variables_of program.now.typed.now function }
 {
     let typed = program.typed;
     match typed.functions.get(function as usize) {
@@ -36,10 +36,10 @@ pub(crate) fn variables<'a>(program: Program<'a>, function: u32) -> &'a [Variabl
 }
 
 /// Their numbers among the objects.
-pub(crate) fn numbers<'a>(program: Program<'a>, function: u32) -> &'a [u32]
-    requires laid { IsLaid program.typed.now program.layouts.now }
-    ensures { AreNumbers (variables_of program.entry.typed.now function)
-        (length (variables_of program.entry.typed.now function)) result.now }
+pub(crate) fn numbers<'a>(program: &Program<'a>, function: u32) -> &'a [u32]
+    requires laid { IsLaid program.now.typed.now program.now.layouts.now }
+    ensures { AreNumbers (variables_of program.now.typed.now function)
+        (length (variables_of program.now.typed.now function)) result.now }
 {
     let layouts = program.layouts;
     match layouts.functions.get(function as usize) {
@@ -61,13 +61,13 @@ pub(crate) fn expand<'a>(machine: &mut Machine<'a>, bound: u64, a: &'a TStmt) ->
 /// A return with the value of an expression.
 pub(crate) fn return_value<'a>(
     machine: &mut Machine<'a>,
-    program: Program<'a>,
+    program: &Program<'a>,
     e: &'a TExpr,
 ) -> Result<(), Stop>
-    requires laid { IsLaid program.typed.now program.layouts.now }
+    requires laid { IsLaid program.now.typed.now program.now.layouts.now }
     requires normal { machine.old.flow ≡ Normal }
-    ensures { (n : ℕ) → IsStep program.entry.typed.now n result machine.old machine.new
-        (stmt_task_run program.entry.typed.now n (stmt.run_stmt (return_value e.now))) }
+    ensures { (n : ℕ) → IsStep program.now.typed.now n result machine.old machine.new
+        (stmt_task_run program.now.typed.now n (stmt.run_stmt (return_value e.now))) }
 {
     match &e.form {
         ExprForm::Call(..) | ExprForm::Conditional(..) => return_later(machine, program, e),
@@ -81,13 +81,13 @@ pub(crate) fn return_value<'a>(
 // The same, where the value is not asked for at once.
 fn return_later<'a>(
     machine: &mut Machine<'a>,
-    program: Program<'a>,
+    program: &Program<'a>,
     e: &'a TExpr,
 ) -> Result<(), Stop>
-    requires laid { IsLaid program.typed.now program.layouts.now }
+    requires laid { IsLaid program.now.typed.now program.now.layouts.now }
     requires normal { machine.old.flow ≡ Normal }
-    ensures { (n : ℕ) → IsStep program.entry.typed.now n result machine.old machine.new
-        (stmt_task_run program.entry.typed.now n (stmt.run_stmt (return_value e.now))) }
+    ensures { (n : ℕ) → IsStep program.now.typed.now n result machine.old machine.new
+        (stmt_task_run program.now.typed.now n (stmt.run_stmt (return_value e.now))) }
 {
     machine.tasks.push(Task::OfStmt(StmtTask::ReturnIt))?;
     evaluate_unknown(machine, program, e)
@@ -108,13 +108,13 @@ fn return_known(machine: &mut Machine, v: Value) -> Result<(), Stop>
 /// Items that become tasks.
 pub(crate) fn expand_items<'a>(
     machine: &mut Machine<'a>,
-    program: Program<'a>,
+    program: &Program<'a>,
     items: &'a [Item],
 ) -> Result<(), Stop>
-    requires laid { IsLaid program.typed.now program.layouts.now }
+    requires laid { IsLaid program.now.typed.now program.now.layouts.now }
     requires normal { machine.old.flow ≡ Normal }
-    ensures { (n : ℕ) → IsStep program.entry.typed.now n result machine.old machine.new
-        (stmt_task_run program.entry.typed.now n (stmt.run_items (items_of items.now))) }
+    ensures { (n : ℕ) → IsStep program.now.typed.now n result machine.old machine.new
+        (stmt_task_run program.now.typed.now n (stmt.run_items (items_of items.now))) }
 {
     let function = machine.frame.function;
     let count = machine.slots.len();

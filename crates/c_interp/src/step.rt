@@ -36,18 +36,19 @@ use c_typed::{TStmt, UnaryOp};
 use cc_io::{Sink, Source};
 
 /// Does one task.
+#[inline(always)]
 pub(crate) fn step<'a, I: Source, O: Sink>(
     machine: &mut Machine<'a>,
-    program: Program<'a>,
+    program: &Program<'a>,
     task: Task<'a>,
     input: &mut I,
     at_end: &mut bool,
     output: &mut O,
 ) -> Result<(), Stop>
-    requires laid { IsLaid program.typed.now program.layouts.now }
+    requires laid { IsLaid program.now.typed.now program.now.layouts.now }
     requires at_end { at_end.old ≡ true → IsAtEnd (I.left input.old) }
-    ensures step { IsStepAt program.entry.typed.now program.entry.bound result machine.old machine.new
-        (task_from program.entry.typed.now program.entry.bound (task_of task.entry) (flow_of machine.old.flow))
+    ensures step { IsStepAt program.now.typed.now program.now.bound result machine.old machine.new
+        (task_from program.now.typed.now program.now.bound (task_of task.entry) (flow_of machine.old.flow))
         (record { held = O.held output.old; left = I.left input.old; closed = at_end.old })
         (record { held = O.held output.new; left = I.left input.new; closed = at_end.new })
         (Increased (I.faults input.old) (I.faults input.new))
@@ -66,19 +67,20 @@ pub(crate) fn step<'a, I: Source, O: Sink>(
     }
 }
 
+#[inline(always)]
 fn do_expr<'a, I: Source, O: Sink>(
     machine: &mut Machine<'a>,
-    program: Program<'a>,
+    program: &Program<'a>,
     task: ExprTask<'a>,
     input: &mut I,
     at_end: &mut bool,
     output: &mut O,
 ) -> Result<(), Stop>
-    requires laid { IsLaid program.typed.now program.layouts.now }
+    requires laid { IsLaid program.now.typed.now program.now.layouts.now }
     requires normal { machine.old.flow ≡ Normal }
     requires at_end { at_end.old ≡ true → IsAtEnd (I.left input.old) }
-    ensures step { IsStepAt program.entry.typed.now program.entry.bound result machine.old machine.new
-        (expr_task_run program.entry.typed.now program.entry.bound (expr_task_of task.entry))
+    ensures step { IsStepAt program.now.typed.now program.now.bound result machine.old machine.new
+        (expr_task_run program.now.typed.now program.now.bound (expr_task_of task.entry))
         (record { held = O.held output.old; left = I.left input.old; closed = at_end.old })
         (record { held = O.held output.new; left = I.left input.new; closed = at_end.new })
         (Increased (I.faults input.old) (I.faults input.new))
@@ -121,16 +123,17 @@ fn do_unary<O: Sink>(
 }
 
 // The tasks of expressions that neither read nor write.
+#[inline(always)]
 fn do_quiet<'a>(
     machine: &mut Machine<'a>,
-    program: Program<'a>,
+    program: &Program<'a>,
     task: ExprTask<'a>,
 ) -> Result<(), Stop>
-    requires laid { IsLaid program.typed.now program.layouts.now }
+    requires laid { IsLaid program.now.typed.now program.now.layouts.now }
     requires normal { machine.old.flow ≡ Normal }
     requires quiet { IsQuiet task }
-    ensures { (n : ℕ) → IsStep program.entry.typed.now n result machine.old machine.new
-        (expr_task_run program.entry.typed.now n (expr_task_of task.entry)) }
+    ensures { IsStep program.now.typed.now program.now.bound result machine.old machine.new
+        (expr_task_run program.now.typed.now program.now.bound (expr_task_of task.entry)) }
 {
     match task {
         ExprTask::Evaluate(e) => evaluate(machine, program, e),
@@ -164,14 +167,15 @@ fn do_quiet<'a>(
 }
 
 // A task of a statement, over which a jump passes.
+#[inline(always)]
 fn stmt_unless_jump<'a>(
     machine: &mut Machine<'a>,
-    program: Program<'a>,
+    program: &Program<'a>,
     task: StmtTask<'a>,
 ) -> Result<(), Stop>
-    requires laid { IsLaid program.typed.now program.layouts.now }
-    ensures { IsStep program.entry.typed.now program.entry.bound result machine.old machine.new
-        (task_from program.entry.typed.now program.entry.bound (of_stmt (stmt_task_of task.entry))
+    requires laid { IsLaid program.now.typed.now program.now.layouts.now }
+    ensures { IsStep program.now.typed.now program.now.bound result machine.old machine.new
+        (task_from program.now.typed.now program.now.bound (of_stmt (stmt_task_of task.entry))
         (flow_of machine.old.flow)) }
 {
     match machine.flow {
@@ -180,15 +184,16 @@ fn stmt_unless_jump<'a>(
     }
 }
 
+#[inline(always)]
 fn do_stmt<'a>(
     machine: &mut Machine<'a>,
-    program: Program<'a>,
+    program: &Program<'a>,
     task: StmtTask<'a>,
 ) -> Result<(), Stop>
-    requires laid { IsLaid program.typed.now program.layouts.now }
+    requires laid { IsLaid program.now.typed.now program.now.layouts.now }
     requires normal { machine.old.flow ≡ Normal }
-    ensures { IsStep program.entry.typed.now program.entry.bound result machine.old machine.new
-        (stmt_task_run program.entry.typed.now program.entry.bound (stmt_task_of task.entry)) }
+    ensures { IsStep program.now.typed.now program.now.bound result machine.old machine.new
+        (stmt_task_run program.now.typed.now program.now.bound (stmt_task_of task.entry)) }
 {
     match task {
         StmtTask::OnStmt(stage, a) => do_stage(machine, program, stage, a),
@@ -212,16 +217,17 @@ fn do_stmt<'a>(
     }
 }
 
+#[inline(always)]
 fn do_stage<'a>(
     machine: &mut Machine<'a>,
-    program: Program<'a>,
+    program: &Program<'a>,
     stage: Stage,
     a: &'a TStmt,
 ) -> Result<(), Stop>
-    requires laid { IsLaid program.typed.now program.layouts.now }
+    requires laid { IsLaid program.now.typed.now program.now.layouts.now }
     requires normal { machine.old.flow ≡ Normal }
-    ensures { IsStep program.entry.typed.now program.entry.bound result machine.old machine.new
-        (stmt_task_run program.entry.typed.now program.entry.bound (on_stmt stage a.now)) }
+    ensures { IsStep program.now.typed.now program.now.bound result machine.old machine.new
+        (stmt_task_run program.now.typed.now program.now.bound (on_stmt stage a.now)) }
 {
     match stage {
         Stage::Run => run_stmt(machine, program, a),
@@ -233,14 +239,15 @@ fn do_stage<'a>(
 }
 
 // A task that is done also where a jump is on its way.
+#[inline(always)]
 fn handle<'a>(
     machine: &mut Machine<'a>,
-    program: Program<'a>,
+    program: &Program<'a>,
     handler: Handler<'a>,
 ) -> Result<(), Stop>
-    requires laid { IsLaid program.typed.now program.layouts.now }
-    ensures { IsStep program.entry.typed.now program.entry.bound result machine.old machine.new
-        (handler_run program.entry.typed.now program.entry.bound (handler_of handler.entry)
+    requires laid { IsLaid program.now.typed.now program.now.layouts.now }
+    ensures { IsStep program.now.typed.now program.now.bound result machine.old machine.new
+        (handler_run program.now.typed.now program.now.bound (handler_of handler.entry)
         (flow_of machine.old.flow)) }
 {
     match handler {

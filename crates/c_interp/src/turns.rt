@@ -22,14 +22,14 @@ use c_typed::{StmtForm, TExpr, TStmt};
 /// A loop with its condition, of which so many turns are left.
 pub(crate) fn turn_if<'a>(
     machine: &mut Machine<'a>,
-    program: Program<'a>,
+    program: &Program<'a>,
     turns: u64,
     a: &'a TStmt,
 ) -> Result<(), Stop>
-    requires laid { IsLaid program.typed.now program.layouts.now }
+    requires laid { IsLaid program.now.typed.now program.now.layouts.now }
     requires normal { machine.old.flow ≡ Normal }
-    ensures { IsStep program.entry.typed.now program.entry.bound result machine.old machine.new
-        (stmt_task_run program.entry.typed.now program.entry.bound (stmt.turn_if turns a.now)) }
+    ensures { IsStep program.now.typed.now program.now.bound result machine.old machine.new
+        (stmt_task_run program.now.typed.now program.now.bound (stmt.turn_if turns a.now)) }
 {
     match &a.form {
         StmtForm::Loop {
@@ -48,16 +48,16 @@ pub(crate) fn turn_if<'a>(
 // The same of a loop with a condition of this type.
 fn turn_while<'a>(
     machine: &mut Machine<'a>,
-    program: Program<'a>,
+    program: &Program<'a>,
     turns: u64,
     a: &'a TStmt,
     t: &CType,
     body: &'a TStmt,
 ) -> Result<(), Stop>
-    requires laid { IsLaid program.typed.now program.layouts.now }
+    requires laid { IsLaid program.now.typed.now program.now.layouts.now }
     requires normal { machine.old.flow ≡ Normal }
-    ensures { IsStep program.entry.typed.now program.entry.bound result machine.old machine.new
-        (asked_do t.now (turns_do program.entry.typed.now program.entry.bound
+    ensures { IsStep program.now.typed.now program.now.bound result machine.old machine.new
+        (asked_do t.now (turns_do program.now.typed.now program.now.bound
         (turn_tasks turns a.now body.now))) }
 {
     let Some(v) = machine.operands.pop() else {
@@ -113,13 +113,13 @@ pub(crate) fn end_switch(machine: &mut Machine) -> Result<(), Stop>
 /// A turn of a loop has ended, and so many are left: the loop goes on, or is left.
 pub(crate) fn again<'a>(
     machine: &mut Machine<'a>,
-    program: Program<'a>,
+    program: &Program<'a>,
     turns: u64,
     a: &'a TStmt,
 ) -> Result<(), Stop>
-    requires laid { IsLaid program.typed.now program.layouts.now }
-    ensures { IsStep program.entry.typed.now program.entry.bound result machine.old machine.new
-        (handler_run program.entry.typed.now program.entry.bound (stmt.again turns a.now)
+    requires laid { IsLaid program.now.typed.now program.now.layouts.now }
+    ensures { IsStep program.now.typed.now program.now.bound result machine.old machine.new
+        (handler_run program.now.typed.now program.now.bound (stmt.again turns a.now)
         (flow_of machine.old.flow)) }
 {
     if !is_loop(a) {
@@ -136,13 +136,13 @@ pub(crate) fn again<'a>(
 // The loop goes on.
 fn go_on<'a>(
     machine: &mut Machine<'a>,
-    program: Program<'a>,
+    program: &Program<'a>,
     turns: u64,
     a: &'a TStmt,
 ) -> Result<(), Stop>
-    requires laid { IsLaid program.typed.now program.layouts.now }
-    ensures { IsStep program.entry.typed.now program.entry.bound result machine.old machine.new
-        (tasks_do program.entry.typed.now program.entry.bound (again_tasks turns a.now)) }
+    requires laid { IsLaid program.now.typed.now program.now.layouts.now }
+    ensures { IsStep program.now.typed.now program.now.bound result machine.old machine.new
+        (tasks_do program.now.typed.now program.now.bound (again_tasks turns a.now)) }
 {
     machine.flow = Flow::Normal;
     match &a.form {
@@ -168,15 +168,15 @@ fn put_again<'a>(machine: &mut Machine<'a>, turns: u64, a: &'a TStmt) -> Result<
 // The step of a loop, and its turns.
 fn step_then<'a>(
     machine: &mut Machine<'a>,
-    program: Program<'a>,
+    program: &Program<'a>,
     turns: u64,
     a: &'a TStmt,
     e: &'a TExpr,
 ) -> Result<(), Stop>
-    requires laid { IsLaid program.typed.now program.layouts.now }
+    requires laid { IsLaid program.now.typed.now program.now.layouts.now }
     requires normal { machine.old.flow ≡ Normal }
-    ensures { IsStep program.entry.typed.now program.entry.bound result machine.old machine.new
-        (tasks_do program.entry.typed.now program.entry.bound
+    ensures { IsStep program.now.typed.now program.now.bound result machine.old machine.new
+        (tasks_do program.now.typed.now program.now.bound
         (of_stmt (stmt.run_turns turns a.now) ∷ optional_tasks (some_expr e.now))) }
 {
     match performed(machine, program, e) {
@@ -189,15 +189,15 @@ fn step_then<'a>(
 // The same, where the step is evaluated first.
 fn step_later<'a>(
     machine: &mut Machine<'a>,
-    program: Program<'a>,
+    program: &Program<'a>,
     turns: u64,
     a: &'a TStmt,
     e: &'a TExpr,
 ) -> Result<(), Stop>
-    requires laid { IsLaid program.typed.now program.layouts.now }
+    requires laid { IsLaid program.now.typed.now program.now.layouts.now }
     requires normal { machine.old.flow ≡ Normal }
-    ensures { (n : ℕ) → IsStep program.entry.typed.now n result machine.old machine.new
-        (tasks_do program.entry.typed.now n
+    ensures { (n : ℕ) → IsStep program.now.typed.now n result machine.old machine.new
+        (tasks_do program.now.typed.now n
         (of_stmt (stmt.run_turns turns a.now) ∷ optional_tasks (some_expr e.now))) }
 {
     machine

@@ -25,24 +25,24 @@ use val_core::Value;
 
 /// The address of an object of a call of this function, whose first block has this number; `Bad`
 /// where there is no such object.
-pub(crate) fn address_of<'a>(program: Program<'a>, function: u32, first: u64, number: u32) -> Value
-    requires laid { IsLaid program.typed.now program.layouts.now }
+pub(crate) fn address_of<'a>(program: &Program<'a>, function: u32, first: u64, number: u32) -> Value
+    requires laid { IsLaid program.now.typed.now program.now.layouts.now }
     requires fit { first < 2 ^ 63 }
     ensures { result
         ≡ address_in first
-        (object_sizes program.entry.typed.now (variables_of program.entry.typed.now function))
+        (object_sizes program.now.typed.now (variables_of program.now.typed.now function))
         number }
 {
     program.layouts.object(function, first, number)
 }
 
 /// The address of an object of the newest call; `Bad` where there is none of this number.
-pub(crate) fn object_at<'a>(machine: &Machine<'a>, program: Program<'a>, number: u32) -> Value
-    requires laid { IsLaid program.typed.now program.layouts.now }
+pub(crate) fn object_at<'a>(machine: &Machine<'a>, program: &Program<'a>, number: u32) -> Value
+    requires laid { IsLaid program.now.typed.now program.now.layouts.now }
     ensures { result
         ≡ address_in machine.now.frame.objects.first
-        (object_sizes program.entry.typed.now
-        (variables_of program.entry.typed.now machine.now.frame.function)) number }
+        (object_sizes program.now.typed.now
+        (variables_of program.now.typed.now machine.now.frame.function)) number }
 {
     address_of(
         program,
@@ -55,13 +55,13 @@ pub(crate) fn object_at<'a>(machine: &Machine<'a>, program: Program<'a>, number:
 /// The address of a global becomes an operand.
 pub(crate) fn global_at<'a>(
     machine: &mut Machine<'a>,
-    program: Program<'a>,
+    program: &Program<'a>,
     number: u32,
 ) -> Result<(), Stop>
-    requires laid { IsLaid program.typed.now program.layouts.now }
+    requires laid { IsLaid program.now.typed.now program.now.layouts.now }
     requires normal { machine.old.flow ≡ Normal }
-    ensures { (n : ℕ) → IsStep program.entry.typed.now n result machine.old machine.new
-        (expr_task_run program.entry.typed.now n (task.global_at number)) }
+    ensures { (n : ℕ) → IsStep program.now.typed.now n result machine.old machine.new
+        (expr_task_run program.now.typed.now n (task.global_at number)) }
 {
     give(machine, Some(program.layouts.global(number)))
 }
@@ -69,24 +69,24 @@ pub(crate) fn global_at<'a>(
 /// The address of the object in scope at a slot becomes an operand.
 pub(crate) fn local_at<'a>(
     machine: &mut Machine<'a>,
-    program: Program<'a>,
+    program: &Program<'a>,
     slot: u32,
 ) -> Result<(), Stop>
-    requires laid { IsLaid program.typed.now program.layouts.now }
+    requires laid { IsLaid program.now.typed.now program.now.layouts.now }
     requires normal { machine.old.flow ≡ Normal }
-    ensures { (n : ℕ) → IsStep program.entry.typed.now n result machine.old machine.new
-        (expr_task_run program.entry.typed.now n (task.local_at slot)) }
+    ensures { (n : ℕ) → IsStep program.now.typed.now n result machine.old machine.new
+        (expr_task_run program.now.typed.now n (task.local_at slot)) }
 {
     let address = slot_address(machine, program, slot);
     give(machine, address)
 }
 
-fn slot_address<'a>(machine: &Machine<'a>, program: Program<'a>, slot: u32) -> Option<Value>
-    requires laid { IsLaid program.typed.now program.layouts.now }
+fn slot_address<'a>(machine: &Machine<'a>, program: &Program<'a>, slot: u32) -> Option<Value>
+    requires laid { IsLaid program.now.typed.now program.now.layouts.now }
     ensures { result
         ≡ slot_address (address_in machine.now.frame.objects.first
-        (object_sizes program.entry.typed.now
-        (variables_of program.entry.typed.now machine.now.frame.function)))
+        (object_sizes program.now.typed.now
+        (variables_of program.now.typed.now machine.now.frame.function)))
         (slice_get (slots_of machine.now.slots.items) slot) }
 {
     match machine.slots.get(slot as usize) {

@@ -81,12 +81,11 @@ fn less_op(t: &CType) -> Op2
 fn related_word(r: Relation, t: &CType, x: u32, y: u32) -> u32
     ensures { result ≡ related r (less_op (is_unsigned t.now)) x y }
 {
-    let less = less_op(t);
     match r {
-        Relation::Less => op2(less, x, y),
-        Relation::Greater => op2(less, y, x),
-        Relation::LessEqual => u32::from(op2(less, y, x) == 0),
-        Relation::GreaterEqual => u32::from(op2(less, x, y) == 0),
+        Relation::Less => op2(less_op(t), x, y),
+        Relation::Greater => op2(less_op(t), y, x),
+        Relation::LessEqual => u32::from(op2(less_op(t), y, x) == 0),
+        Relation::GreaterEqual => u32::from(op2(less_op(t), x, y) == 0),
         Relation::Equal => u32::from(x == y),
         Relation::NotEqual => u32::from(u32::from(x == y) == 0),
     }

@@ -53,6 +53,7 @@ pub fn loaded(store: &Store, t: &CType, at: Value) -> Option<Value>
 }
 
 /// The same, where it is a number.
+#[inline(always)]
 pub(crate) fn loaded_word(store: &Store, t: &CType, at: Value) -> Option<u32>
     ensures { (calls : List Opened) (m : Memory) → Holds store.now calls m →
         result ≡ loaded_word t.now at m }

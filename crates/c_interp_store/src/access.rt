@@ -76,6 +76,7 @@ impl Store {
 
     /// The value at an address: of a leaf of this width, in bytes, in an object that lives, where
     /// the leaf has one.
+    #[inline(always)]
     pub fn load(&self, width: u8, at: Value) -> Option<Value>
         ensures { (calls : List Opened) (m : Memory) → Holds self.now calls m →
             result ≡ load width at m }

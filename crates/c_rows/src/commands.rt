@@ -3,6 +3,7 @@
 
 use cc_command::{Command, parse_command};
 use no_memory::NoMemory;
+use s_linear::CodeForm;
 use std::alloc::Global;
 
 fn arguments_of(alloc: Global, row: &str) -> Result<Vec<String>, NoMemory> {
@@ -17,6 +18,14 @@ fn arguments_of(alloc: Global, row: &str) -> Result<Vec<String>, NoMemory> {
     Ok(arguments)
 }
 
+// A form that is not plain.
+fn said(form: CodeForm) -> &'static str {
+    match form {
+        CodeForm::Plain => "",
+        CodeForm::Tight => " tight",
+    }
+}
+
 fn say_one(out: &mut String, command: Command<'_>) -> Result<(), NoMemory> {
     match command {
         Command::Accept => out.push_str("accept\n")?,
@@ -26,10 +35,11 @@ fn say_one(out: &mut String, command: Command<'_>) -> Result<(), NoMemory> {
             recipe,
             workers,
             report,
+            form,
         } => {
             let report = report.unwrap_or("-");
             write!(out, "from {source} to {image} workers {workers} ")?;
-            write!(out, "recipe {recipe} report {report}\n")?;
+            write!(out, "recipe {recipe} report {report}{}\n", said(form))?;
         }
         Command::Run { image, steps } => write!(out, "run {image} steps {steps}\n")?,
         Command::Generate {
@@ -37,18 +47,23 @@ fn say_one(out: &mut String, command: Command<'_>) -> Result<(), NoMemory> {
             functions,
             out: image,
         } => write!(out, "generate {functions} from {start} to {image}\n")?,
-        Command::Check { source, log, image } => {
-            write!(out, "check {source} by {log} for {image}\n")?
-        }
+        Command::Check {
+            source,
+            log,
+            image,
+            form,
+        } => write!(out, "check {source} by {log} for {image}{}\n", said(form))?,
         Command::Session {
             source,
             image,
             recipe,
             workers,
+            form,
         } => {
             write!(
                 out,
-                "edit {source} to {image} workers {workers} recipe {recipe}\n"
+                "edit {source} to {image} workers {workers} recipe {recipe}{}\n",
+                said(form)
             )?
         }
         Command::Interpret { source, bound } => write!(out, "interpret {source} bound {bound}\n")?,

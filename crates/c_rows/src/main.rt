@@ -5,20 +5,26 @@
 //! (`layouts`), `parse` (`parsing`), `scope` (`scopes`), `operator` (`operators`), `check`
 //! (`checking`) or `command` (`commands`). `tools/parse.sh` and `tools/typing.sh` compare the rows
 //! of `parse` and `operator` with gcc.
+//!
+//! Where there are arguments, it runs one part on another input instead (`bench`).
 #![tactic(auto)]
 
+mod bench;
 mod checking;
 mod commands;
 mod constants;
+mod lambdas;
 mod layouts;
 mod lexing;
 mod operands;
 mod operators;
 mod parsing;
+mod places;
 mod scopes;
 mod signs;
 mod sources;
 
+use crate::bench::run_part;
 use crate::checking::say_checked;
 use crate::commands::say_command;
 use crate::layouts::say_layouts;
@@ -27,8 +33,8 @@ use crate::operators::say_table;
 use crate::parsing::say_parsed;
 use crate::scopes::say_calls;
 use no_memory::NoMemory;
-use std::io;
 use std::rt::Env;
+use std::{env, io};
 
 // Says what a part answers on a row.
 fn say(out: &mut String, part: &str, row: &str) -> Result<(), NoMemory> {
@@ -52,7 +58,7 @@ fn answer(rt: &(impl Print + AllocGlobal), part: &str, row: &str) -> io::Result<
     }
 }
 
-fn main(rt: HostRuntime) -> io::Result<()> {
+fn answer_all(rt: &(impl Input + Print + AllocGlobal)) -> io::Result<()> {
     let mut part = String::new(rt.alloc());
     for line in rt.lines(rt.alloc()) {
         let line = line?;
@@ -63,8 +69,16 @@ fn main(rt: HostRuntime) -> io::Result<()> {
                 part.push_str(name)?;
                 println!(rt; "{line}")?;
             }
-            None => answer(&rt, part.as_str(), line)?,
+            None => answer(rt, part.as_str(), line)?,
         }
     }
     Ok(())
+}
+
+fn main(rt: HostRuntime) -> io::Result<()> {
+    let mut words = env::args(&rt)?;
+    match words.nth(1) {
+        Some(part) => run_part(&rt, part.as_str(), words),
+        None => answer_all(&rt),
+    }
 }

@@ -2,6 +2,7 @@
 use Rattle.std.proofs.Common.{◌≡◌, ℕ, List, take, refl}
 use Rattle.std.specs.Option.{ForSome}
 use Rattle.g_graph.specs.declared.steps.Rule.{Rule}
+use Rattle.s_linear.specs.declared.frame.CodeForm.{CodeForm}
 use Rattle.cc_watch.specs.Rows.{PlainRow}
 use Rattle.cc_build.specs.AcceptEnds.{AcceptCause, IsTold}
 use Rattle.cc_outside.specs.Outside.{StreamSeen}
@@ -13,12 +14,12 @@ use Rattle.cc_build.proofs.SourceLemmas.{defines_of_read}
 use Rattle.cc_refusal.proofs.lemmas.Sources.{refused_of_read}
 
 -- the bytes that were read are a source of so many functions
-pub accepted_ends : (recipe : List Rule) (functions : ℕ) (e : Outcome) (input input' output output' : StreamSeen) (read bytes : List ℕ) (rows : List PlainRow)
+pub accepted_ends : (recipe : List Rule) (form : CodeForm) (functions : ℕ) (e : Outcome) (input input' output output' : StreamSeen) (read bytes : List ℕ) (rows : List PlainRow)
     → ForSome input.bytes (λ text. read ≡ take 1048577 text) →
-    CompilesTo recipe read bytes functions rows → IsTold functions e output output' → AcceptCause e input input' output output'
-accepted_ends recipe n Done input input' output output' read bytes rows same h ends = (n, (λ text is. defines_of_read recipe text read bytes n rows (same text is) h), ends)
-accepted_ends recipe n WriteFault input input' output output' read bytes rows same h ends = (n, (λ text is. defines_of_read recipe text read bytes n rows (same text is) h), ends)
-accepted_ends recipe n _ input input' output output' read bytes rows same h ends = absurd ends
+    CompilesTo recipe form read bytes functions rows → IsTold functions e output output' → AcceptCause e input input' output output'
+accepted_ends recipe form n Done input input' output output' read bytes rows same h ends = (n, (λ text is. defines_of_read recipe form text read bytes n rows (same text is) h), ends)
+accepted_ends recipe form n WriteFault input input' output output' read bytes rows same h ends = (n, (λ text is. defines_of_read recipe form text read bytes n rows (same text is) h), ends)
+accepted_ends recipe form n _ input input' output output' read bytes rows same h ends = absurd ends
 
 -- the bytes that were read are refused, or memory ran out
 pub rejected_ends : (e : Outcome) (input input' output : StreamSeen) (read : List ℕ) → ForSome input.bytes (λ text. read ≡ take 1048577 text) → IsRejectionOf read e

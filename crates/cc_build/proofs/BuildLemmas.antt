@@ -2,8 +2,9 @@
 use Rattle.std.proofs.Common.{◌≡◌, ◌≢◌, ◌⊎◌, ℕ, ◌≤◌, true, false, List, Option, length, take, option_map, refl, ap, sym, ◌∙◌, subst, inl, inr}
 use Rattle.std.proofs.lemmas.Bool.{false≢true}
 use Rattle.g_graph.specs.declared.steps.Rule.{Rule}
+use Rattle.s_linear.specs.declared.frame.CodeForm.{CodeForm}
 use Rattle.cc_io.specs.Files.{Name, FileSet, put_file}
-use Rattle.g_pass.specs.Recipe.{OneRecipe}
+use Rattle.cc_compile_keeps.specs.g_pass.Recipe.{OneRecipe}
 use Rattle.cc_watch.specs.Rows.{PlainRow}
 use Rattle.cc_compile.specs.RecipeText.{IsTextOf}
 use Rattle.cc_build.specs.BuildEnds.{BuildEnds, BuildEndsUnder, Finishes}
@@ -23,10 +24,10 @@ a_prefix image read bytes known known' same (inl kept) = inl kept
 a_prefix image read bytes known known' same (inr cut) = inr (cut.0, cut.2 ∙ ap (λ b. option_map (put_file image (take cut.0 b)) known) same)
 
 module _ {W : Type 0} (named : W → List ℕ) (stands_for : W → List PlainRow → Type 0) (text_of : W → List PlainRow → List ℕ) where
-  abbrev Ended : List Rule → Option (List ℕ) → (source image : Name) → Outcome → List ℕ → FilesSeen → FilesSeen → List W → List W → Type 0
+  abbrev Ended : List Rule → CodeForm → Option (List ℕ) → (source image : Name) → Outcome → List ℕ → FilesSeen → FilesSeen → List W → List W → Type 0
   Ended = BuildEnds named stands_for text_of
 
-  abbrev EndedUnder : List ℕ → Option (List ℕ) → (source image : Name) → Outcome → List ℕ → FilesSeen → FilesSeen → List W → List W → Type 0
+  abbrev EndedUnder : List ℕ → CodeForm → Option (List ℕ) → (source image : Name) → Outcome → List ℕ → FilesSeen → FilesSeen → List W → List W → Type 0
   EndedUnder = BuildEndsUnder named stands_for text_of
 
   abbrev Finished : Option (List ℕ) → Name → List ℕ → List PlainRow → Outcome → List ℕ → FilesSeen → FilesSeen → List W → List W → Type 0
@@ -52,9 +53,9 @@ module _ {W : Type 0} (named : W → List ℕ) (stands_for : W → List PlainRow
     finishes-since NoMemory h = since (λ f. Finished name image bytes rows NoMemory said f after ws ws') h
     finishes-since _ h = absurd h
 
-  module _ (recipe : List Rule) (name : Option (List ℕ)) (source image : Name) (bytes : List ℕ) (rows : List PlainRow) (said : List ℕ) (before after : FilesSeen) (ws ws' : List W) where
-    pub compiled-ends : (e : Outcome) → WasCompiled recipe source before.known bytes rows → Finished name image bytes rows e said before after ws ws' →
-        Ended recipe name source image e said before after ws ws'
+  module _ (recipe : List Rule) (form : CodeForm) (name : Option (List ℕ)) (source image : Name) (bytes : List ℕ) (rows : List PlainRow) (said : List ℕ) (before after : FilesSeen) (ws ws' : List W) where
+    pub compiled-ends : (e : Outcome) → WasCompiled recipe form source before.known bytes rows → Finished name image bytes rows e said before after ws ws' →
+        Ended recipe form name source image e said before after ws ws'
     compiled-ends Done c h =
         let k : Finished name image bytes (rows_in c.image) Done said before after ws ws' = subst (λ rs. Finished name image bytes rs Done said before after ws ws') c.listed h in
         record {
@@ -77,18 +78,18 @@ module _ {W : Type 0} (named : W → List ℕ) (stands_for : W → List PlainRow
 
   -- ---- the recipe, and the watcher to report
 
-  module _ (one : OneRecipe) (list : List ℕ) (recipe : List Rule) (name : Option (List ℕ)) (source image : Name) (ended : Outcome) (said : List ℕ) (before after : FilesSeen) (ws ws' : List W) where
-    pub under_it : IsTextOf recipe list → true ≡ has_reporter named name ws → (ended ≢ Done → said ≡ line_of ended) → Ended recipe name source image ended said before after ws ws' →
-        EndedUnder list name source image ended said before after ws ws'
+  module _ (one : OneRecipe) (list : List ℕ) (recipe : List Rule) (form : CodeForm) (name : Option (List ℕ)) (source image : Name) (ended : Outcome) (said : List ℕ) (before after : FilesSeen) (ws ws' : List W) where
+    pub under_it : IsTextOf recipe list → true ≡ has_reporter named name ws → (ended ≢ Done → said ≡ line_of ended) → Ended recipe form name source image ended said before after ws ws' →
+        EndedUnder list form name source image ended said before after ws ws'
     under_it it some line ends = record {
-      build = λ other is has. subst (λ r. Ended r name source image ended said before after ws ws') (one recipe other (sym it.written ∙ is.written)) ends;
+      build = λ other is has. subst (λ r. Ended r form name source image ended said before after ws ws') (one recipe other (sym it.written ∙ is.written)) ends;
       usage = λ none. absurd (none recipe it (sym some));
       line = line;
     }
 
-  module _ (list : List ℕ) (name : Option (List ℕ)) (source image : Name) (files : FilesSeen) (ws : List W) where
-    pub under_none : ((recipe : List Rule) → IsTextOf recipe list → ⊥) → EndedUnder list name source image Usage (line_of Usage) files files ws ws
+  module _ (list : List ℕ) (form : CodeForm) (name : Option (List ℕ)) (source image : Name) (files : FilesSeen) (ws : List W) where
+    pub under_none : ((recipe : List Rule) → IsTextOf recipe list → ⊥) → EndedUnder list form name source image Usage (line_of Usage) files files ws ws
     under_none none = record { build = λ recipe is has. absurd (none recipe is); usage = λ all. (inl refl, refl, refl); line = λ other. refl }
 
-    pub under_nobody : false ≡ has_reporter named name ws → EndedUnder list name source image Usage (line_of Usage) files files ws ws
+    pub under_nobody : false ≡ has_reporter named name ws → EndedUnder list form name source image Usage (line_of Usage) files files ws ws
     under_nobody nobody = record { build = λ recipe is has. absurd (false≢true (nobody ∙ has)); usage = λ all. (inl refl, refl, refl); line = λ other. refl }

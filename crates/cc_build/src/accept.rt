@@ -6,11 +6,12 @@ ghost use Rattle.cc_report.specs.Outcome.{accepted_text};
 ghost use Rattle.cc_outside.specs.Outside.{stream_seen};
 
 use crate::compile::compile;
+use cc_compile_keeps::g_pass::Recipe;
 use cc_io::{Sink, Source, write_all};
 use cc_outside::load::{LoadError, load_input};
 use cc_report::{Line, Outcome, push_decimal, push_text};
-use g_pass::Recipe;
 use limits::MOST_SOURCE_BYTES;
+use s_linear::CodeForm;
 use std::alloc::Global;
 
 fn accepted_line(functions: u32) -> Line
@@ -46,7 +47,7 @@ pub fn accept<I: Source, O: Sink>(alloc: Global, input: &mut I, output: &mut O) 
         Err(LoadError::Failed) => return Outcome::ReadFault,
         Err(LoadError::NoMemory) => return Outcome::NoMemory,
     };
-    match compile(alloc, &text, &Recipe::none()) {
+    match compile(alloc, &text, &Recipe::none(), CodeForm::Plain) {
         Ok(compiled) => tell_accepted(output, compiled.functions),
         Err(outcome) => outcome,
     }

@@ -17,13 +17,14 @@ use crate::compile::compile_by_workers;
 use crate::watchers::{has_reporter, report_of, tell_all};
 use board_work::Gate;
 use cc_compile::{Compiled, recipe_of};
+use cc_compile_keeps::g_pass::Recipe;
+use cc_compile_keeps::g_pass::laws::texts_have_one_recipe;
 use cc_io::{Files, save};
 use cc_outside::load::{LoadError, load};
 use cc_report::{Ending, Outcome};
 use cc_watch::Watcher;
-use g_pass::Recipe;
-use g_pass::laws::texts_have_one_recipe;
 use limits::MOST_SOURCE_BYTES;
+use s_linear::CodeForm;
 use std::alloc::Global;
 use std::sync::Wait;
 use std::thread::Threads;
@@ -55,12 +56,13 @@ fn compile_file<H: Threads + Wait + Sync, F: Files, G: Gate>(
     files: &mut F,
     source: &str,
     recipe: &Recipe,
+    form: CodeForm,
     workers: u32,
     gate: &G,
 ) -> Result<Compiled, Outcome>
     requires some_worker { 0 < workers }
     requires few_workers { workers ≤ most_workers }
-    ensures compiled { IfOk result (λ c. WasCompiled recipe.now source.now (F.known files.old)
+    ensures compiled { IfOk result (λ c. WasCompiled recipe.now form source.now (F.known files.old)
         c.image.items c.rows.items) }
     ensures err { IfErr result (λ e. CompileFails source.now e (F.known files.old)
         (Increased (F.open_faults files.old source.now) (F.open_faults files.new source.now)
@@ -75,7 +77,7 @@ fn compile_file<H: Threads + Wait + Sync, F: Files, G: Gate>(
         Ok(text) => text,
         Err(outcome) => return Err(outcome),
     };
-    compile_by_workers(rt, alloc, &text, recipe, workers, gate)
+    compile_by_workers(rt, alloc, &text, recipe, form, workers, gate)
 }
 
 /// Tells the rows to the watchers, writes the image to the file of this name, and makes the report.
@@ -115,6 +117,7 @@ fn build_under<H: Threads + Wait + Sync, F: Files, G: Gate>(
     source: &str,
     image: &str,
     recipe: &Recipe,
+    form: CodeForm,
     workers: u32,
     report: Option<&str>,
     gate: &G,
@@ -124,20 +127,20 @@ fn build_under<H: Threads + Wait + Sync, F: Files, G: Gate>(
     requires few_workers { workers ≤ most_workers }
     ensures ends { let seen = files_seen F.known F.read_faults F.write_faults F.open_faults
         F.create_faults in
-        BuildEnds named stands_for text_of recipe.now
+        BuildEnds named stands_for text_of recipe.now form
         (option_map (λ s. s.now) report.entry) source.now image.now (outcome_of result)
         (said_by result) (seen files.old) (seen files.new)
         watchers.old.items watchers.new.items }
     ensures line { outcome_of result ≢ Done → said_by result ≡ line_of (outcome_of result) }
 {
-    match compile_file(rt, alloc, files, source, recipe, workers, gate) {
+    match compile_file(rt, alloc, files, source, recipe, form, workers, gate) {
         Ok(compiled) => finish(alloc, files, image, &compiled, watchers, report),
         Err(outcome) => Ending::Line(outcome),
     }
 }
 
-/// Compiles the file named `source` under the recipe of this text to the file named `image`, by 1
-/// to `MOST_WORKERS` workers. The watchers are given the rows, and the text of the one named
+/// Compiles the file named `source` under the recipe of this text to the file named `image`, in
+/// this form, by 1 to `MOST_WORKERS` workers. The watchers are given the rows, and the text of the one named
 /// `report` is said. A text of no recipe is usage, and so is a name that no watcher has; no file is
 /// opened then.
 #[tactic(auto, using(crate::proofs::BuildLemmas::under_it, crate::proofs::BuildLemmas::under_none, crate::proofs::BuildLemmas::under_nobody))]
@@ -148,6 +151,7 @@ pub fn build<H: Threads + Wait + Sync, F: Files, G: Gate>(
     source: &str,
     image: &str,
     recipe: &str,
+    form: CodeForm,
     workers: u32,
     report: Option<&str>,
     gate: &G,
@@ -157,7 +161,7 @@ pub fn build<H: Threads + Wait + Sync, F: Files, G: Gate>(
     requires few_workers { workers ≤ most_workers }
     ensures { let seen = files_seen F.known F.read_faults F.write_faults F.open_faults
         F.create_faults in
-        BuildEndsUnder named stands_for text_of recipe.now
+        BuildEndsUnder named stands_for text_of recipe.now form
         (option_map (λ s. s.now) report.entry) source.now image.now (outcome_of result)
         (said_by result) (seen files.old) (seen files.new)
         watchers.old.items watchers.new.items }
@@ -168,7 +172,7 @@ pub fn build<H: Threads + Wait + Sync, F: Files, G: Gate>(
     }
     match recipe_of(recipe) {
         Some(recipe) => build_under(
-            rt, alloc, files, source, image, &recipe, workers, report, gate, watchers,
+            rt, alloc, files, source, image, &recipe, form, workers, report, gate, watchers,
         ),
         None => Ending::Line(Outcome::Usage),
     }

@@ -8,6 +8,6 @@ ghost use Rattle.cc_build.specs.BuildEnds.{OneBuild};
 pub fn builds_leave_the_same_files()
     ensures { OneBuild }
 {
-    cc_source::laws::the_program_is_determined();
+    cc_refusal::cc_source::laws::the_program_is_determined();
     cc_compile::laws::the_image_is_determined();
 }

@@ -7,12 +7,13 @@ use Rattle.c_typed.specs.Typed.{ProgramTree}
 use Rattle.g_graph.specs.Plain.{PlainLambda}
 use Rattle.g_build_def.specs.Functions.{graph}
 use Rattle.g_build_def.specs.Functions as built
+use Rattle.s_linear.specs.declared.frame.CodeForm.{CodeForm}
 use Rattle.cc_emit_def.specs.Image.{file_of_program}
-use Rattle.cc_source.specs.Accepted.{Accepts}
-use Rattle.cc_source.specs.declared.fault.CompileFault.{CompileFault}
+use Rattle.cc_refusal.specs.cc_source.Accepted.{Accepts}
+use Rattle.cc_refusal.specs.cc_source.declared.fault.CompileFault.{CompileFault}
 use Rattle.cc_refusal.proofs.lemmas.Sources.{whole_text}
 use Rattle.log_check.specs.Log.{BreaksAt, PlainPart}
-use Rattle.log_replay.specs.Right.{AreRight}
+use Rattle.log_judge.specs.log_replay.Right.{AreRight}
 use Rattle.log_judge.specs.Judgement.{IsJudgeFault, IsNamedFault, IsNameFault}
 use Rattle.log_judge.specs.Parting.{PartAt}
 use Rattle.log_judge.specs.declared.fault.JudgeFault.{JudgeFault}
@@ -59,9 +60,9 @@ part-of-beginning n xs ys read at same short parts =
 
 -- ---- what is judged
 
-module _ (s l i source log image : List ℕ) (source_is : source ≡ take 1048577 s) (log_is : log ≡ take 2147483649 l) (image_is : image ≡ take 268435457 i)
+module _ (form : CodeForm) (s l i source log image : List ℕ) (source_is : source ≡ take 1048577 s) (log_is : log ≡ take 2147483649 l) (image_is : image ≡ take 268435457 i)
     (short : (p : ProgramTree) → Accepts source p → (functions : List PlainPart) (ks : List PlainLambda) → AreRight (graph p) functions ks →
-    length (file_of_program (built.omega p) ks) ≤ 268435456) where
+    length (file_of_program form (built.omega p) ks) ≤ 268435456) where
   whole : (p : ProgramTree) → Accepts source p → source ≡ s
   whole p accepted = whole_text s source p source_is accepted
 
@@ -71,18 +72,18 @@ module _ (s l i source log image : List ℕ) (source_is : source ≡ take 104857
   whole-log : length log ≤ 2147483648 → log ≡ l
   whole-log few = all-read 2147483649 l log log_is (omega (arith, few))
 
-  pub whole-certain : IsCertain source log image → IsCertain s l i
+  pub whole-certain : IsCertain form source log image → IsCertain form s l i
   whole-certain c =
       let p = c.certifies.program in
       let all = c.certifies.certified in
       let few : length image ≤ 268435456 = omega (arith, ap (λ (xs : List ℕ). length xs) all.file, short p c.certifies.accepted all.functions all.lambdas all.right) in
-      subst (λ t. IsCertain t l i) (whole p c.certifies.accepted)
-      (subst (λ t. IsCertain source t i) (whole-log all.read.short) (subst (λ t. IsCertain source log t) (all-read 268435457 i image image_is (omega (arith, few))) c))
+      subst (λ t. IsCertain form t l i) (whole p c.certifies.accepted)
+      (subst (λ t. IsCertain form source t i) (whole-log all.read.short) (subst (λ t. IsCertain form source log t) (all-read 268435457 i image image_is (omega (arith, few))) c))
 
-  log-named : (e : JudgeFault) (p : ProgramTree) → IsNamedFault e p log image → IsNamedFault e p l image
-  log-named e p h = subst (λ t. IsNamedFault e p t image) (whole-log h.read.short) h
+  log-named : (e : JudgeFault) (p : ProgramTree) → IsNamedFault e p form log image → IsNamedFault e p form l image
+  log-named e p h = subst (λ t. IsNamedFault e p form t image) (whole-log h.read.short) h
 
-  pub whole-fault : (e : JudgeFault) → ((f : CompileFault) → e ≡ Source f → ⊥) → IsJudgeFault e source log image → IsJudgeFault e s l i
+  pub whole-fault : (e : JudgeFault) → ((f : CompileFault) → e ≡ Source f → ⊥) → IsJudgeFault e source form log image → IsJudgeFault e s form l i
   whole-fault (Source f) other h = absurd (other f refl)
   whole-fault NoMemory other h = tt
   whole-fault LongLog other h =
@@ -108,7 +109,7 @@ module _ (s l i source log image : List ℕ) (source_is : source ≡ take 104857
           wrong = record {
             lambdas = w.lambdas;
             right = w.right;
-            bytes = part-of-beginning 268435457 i (file_of_program (built.omega h.0) w.lambdas) image byte image_is (omega (arith, few)) w.bytes;
+            bytes = part-of-beginning 268435457 i (file_of_program form (built.omega h.0) w.lambdas) image byte image_is (omega (arith, few)) w.bytes;
           };
         },
       )

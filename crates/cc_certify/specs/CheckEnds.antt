@@ -8,7 +8,8 @@ use Rattle.cc_refusal.specs.Refused.{outcome_of_refusal, IsRefused}
 use Rattle.cc_report.specs.declared.log_fault.LogFault.TheVariants as log_fault
 use Rattle.cc_report.specs.declared.outcome.Outcome.{Outcome}
 use Rattle.cc_report.specs.declared.outcome.Outcome.TheVariants.{ReadFault, Refused, NoMemory, Certified, NotCertified}
-use Rattle.cc_source_keeps.specs.Meaning.{KeepsMeaning}
+use Rattle.s_linear.specs.declared.frame.CodeForm.{CodeForm}
+use Rattle.log_judge.specs.cc_source_keeps.Meaning.{KeepsMeaning}
 use Rattle.log_judge.specs.Judgement.{Certifies, IsJudgeFault}
 use Rattle.log_judge.specs.declared.fault.JudgeFault.{JudgeFault}
 use Rattle.log_judge.specs.declared.fault.JudgeFault.TheVariants as fault
@@ -27,18 +28,18 @@ outcome_of (fault.OtherImage byte) source = NotCertified log_fault.OtherImage by
 outcome_of fault.NoMemory source = NoMemory
 
 -- The log certifies the image of the source, which keeps the source's meaning.
-pub record IsCertain (source log image : List ℕ) : Type 0 where
-  pub certifies : Certifies source log image
-  pub meaning : KeepsMeaning certifies.program certifies.certified.lambdas image
+pub record IsCertain (form : CodeForm) (source log image : List ℕ) : Type 0 where
+  pub certifies : Certifies source form log image
+  pub meaning : KeepsMeaning form certifies.program certifies.certified.lambdas image
 
 -- It does not, for this fault.
-pub record IsUncertain (ended : Outcome) (source log image : List ℕ) : Type 0 where
+pub record IsUncertain (ended : Outcome) (form : CodeForm) (source log image : List ℕ) : Type 0 where
   pub fault : JudgeFault
-  pub wrong : IsJudgeFault fault source log image
+  pub wrong : IsJudgeFault fault source form log image
   pub told : ended ≡ outcome_of fault source
 
-abbrev pub IsJudged : Outcome → (source log image : List ℕ) → Type 0
-IsJudged ended source log image = ((ended ≡ Certified) × IsCertain source log image) ⊎ IsUncertain ended source log image
+abbrev pub IsJudged : Outcome → CodeForm → (source log image : List ℕ) → Type 0
+IsJudged ended form source log image = ((ended ≡ Certified) × IsCertain form source log image) ⊎ IsUncertain ended form source log image
 
 -- ---- what is judged of three files
 
@@ -53,17 +54,17 @@ pub record AreTexts (source log image : Name) (known : Option FileSet) (P : (sou
   pub so : P source_text log_text bytes
 
 -- the cause of an outcome
-abbrev pub CheckCause : (source log image : Name) → Outcome → (before after : FilesSeen) → Type 0
-CheckCause source log image Certified before after = AreTexts source log image before.known IsCertain
-CheckCause source log image (NotCertified kind place) before after = AreTexts source log image before.known (IsUncertain (NotCertified kind place))
-CheckCause source log image (Refused refusal) before after = IfKnown source before (λ text. IsRefused text refusal)
-CheckCause source log image ReadFault before after = ReadFails source before after ⊎ (ReadFails log before after ⊎ ReadFails image before after)
-CheckCause source log image NoMemory before after = Unit {0}
-CheckCause source log image _ before after = ⊥
+abbrev pub CheckCause : (source log image : Name) → CodeForm → Outcome → (before after : FilesSeen) → Type 0
+CheckCause source log image form Certified before after = AreTexts source log image before.known (IsCertain form)
+CheckCause source log image form (NotCertified kind place) before after = AreTexts source log image before.known (IsUncertain (NotCertified kind place) form)
+CheckCause source log image form (Refused refusal) before after = IfKnown source before (λ text. IsRefused text refusal)
+CheckCause source log image form ReadFault before after = ReadFails source before after ⊎ (ReadFails log before after ⊎ ReadFails image before after)
+CheckCause source log image form NoMemory before after = Unit {0}
+CheckCause source log image form _ before after = ⊥
 
 -- No file changes.
-pub record CheckEnds (source log image : Name) (ended : Outcome) (before after : FilesSeen) : Type 0 where
-  pub cause : CheckCause source log image ended before after
+pub record CheckEnds (source log image : Name) (form : CodeForm) (ended : Outcome) (before after : FilesSeen) : Type 0 where
+  pub cause : CheckCause source log image form ended before after
   pub files : Unchanged before after
 
 -- ---- a law
@@ -71,7 +72,7 @@ pub record CheckEnds (source log image : Name) (ended : Outcome) (before after :
 -- Where no file was left unread, a log that certifies the image is told to, or memory ran out.
 abbrev pub CertifiedIsTold : Type 0
 CertifiedIsTold =
-    (source log image : Name) (ended : Outcome) (before after : FilesSeen) → CheckEnds source log image ended before after →
+    (source log image : Name) (form : CodeForm) (ended : Outcome) (before after : FilesSeen) → CheckEnds source log image form ended before after →
     (ReadFails source before after → ⊥) → (ReadFails log before after → ⊥) → (ReadFails image before after → ⊥) →
     ForSome before.known (λ files.
-    Certifies (content source files) (content log files) (content image files) → (ended ≡ Certified) ⊎ (ended ≡ NoMemory))
+    Certifies (content source files) form (content log files) (content image files) → (ended ≡ Certified) ⊎ (ended ≡ NoMemory))

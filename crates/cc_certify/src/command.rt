@@ -17,6 +17,7 @@ use cc_refusal::{outcome_of as outcome_of_refusal, refusal_of};
 use cc_report::{LogFault, Outcome};
 use limits::{MOST_IMAGE_BYTES, MOST_SOURCE_BYTES};
 use log_judge::{JudgeFault, judge};
+use s_linear::CodeForm;
 use std::alloc::Global;
 
 /// How many bytes a log has at most.
@@ -98,18 +99,18 @@ fn outcome_of(fault: JudgeFault, source: &[u8]) -> Outcome
 }
 
 // What is judged of a source, a log and an image.
-fn judged(alloc: Global, source: &[u8], log: &[u8], image: &[u8]) -> Outcome
-    ensures judged { IsJudged result source.now log.now image.now }
+fn judged(alloc: Global, form: CodeForm, source: &[u8], log: &[u8], image: &[u8]) -> Outcome
+    ensures judged { IsJudged result form source.now log.now image.now }
     ensures bytes { AreBytes source.now }
 {
-    match judge(alloc, source, log, image) {
+    match judge(alloc, form, source, log, image) {
         Ok(()) => Outcome::Certified,
         Err(fault) => outcome_of(fault, source),
     }
 }
 
 /// Whether the log in the file of this name certifies the image in that one as an image of the
-/// source, whoever wrote them: `Certified`, or `NotCertified` with the first fault. The files are
+/// source in this form, whoever wrote them: `Certified`, or `NotCertified` with the first fault. The files are
 /// read in this order before anything is judged, and of each one byte over its limit at most.
 pub fn check<F: Files>(
     alloc: Global,
@@ -117,17 +118,18 @@ pub fn check<F: Files>(
     source: &str,
     log: &str,
     image: &str,
+    form: CodeForm,
 ) -> Outcome
     ensures { let seen = files_seen F.known F.read_faults F.write_faults F.open_faults
         F.create_faults in
-        CheckEnds source.now log.now image.now result (seen files.old) (seen files.new) }
+        CheckEnds source.now log.now image.now form result (seen files.old) (seen files.new) }
 {
     log_judge::laws::images_are_short();
     let read = match texts_of(alloc, files, source, log, image) {
         Ok(read) => read,
         Err(outcome) => return outcome,
     };
-    let ended = judged(alloc, &read.source, &read.log, &read.image);
+    let ended = judged(alloc, form, &read.source, &read.log, &read.image);
     drop(read);
     ended
 }

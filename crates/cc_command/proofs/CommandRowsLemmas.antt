@@ -1,7 +1,7 @@
 -- Each list of arguments is read as its row says.
 use Rattle.std.proofs.Common.{refl}
 use Rattle.cc_command.specs.Command.{number_in}
-use Rattle.cc_command.specs.CommandRows.{BuildRows, RecipeRows, WorkersRows, ReportRows, RunRows, OtherRows, GenRows, CheckRows, SessionRows, BoundRows}
+use Rattle.cc_command.specs.CommandRows.{BuildRows, RecipeRows, WorkersRows, ReportRows, CodeRows, RunRows, OtherRows, GenRows, CheckRows, SessionRows, BoundRows}
 
 pub build_rows : BuildRows
 unfolding number_in
@@ -58,6 +58,21 @@ report_rows = record {
   option_for_value = refl;
   twice = refl;
   before_the_command = refl;
+  of_a_run = refl;
+}
+
+pub code_rows : CodeRows
+unfolding number_in
+code_rows = record {
+  plain = refl;
+  tight = refl;
+  of_a_check = refl;
+  of_a_session = refl;
+  another_case = refl;
+  more_letters = refl;
+  empty_text = refl;
+  no_value = refl;
+  twice = refl;
   of_a_run = refl;
 }
 

@@ -1,24 +1,27 @@
 -- The command line: a command, or none.
 use Rattle.std.specs.Prelude.{ℕ, Bool, ◌*◌, ◌+◌, ◌-◌, ◌&&◌, List, [], ◌∷◌, Option, Some, None, codes, fold, length, nat_le, if◌then◌else◌, option_map}
 use Rattle.std.specs.List.{list_all}
+use Rattle.std.specs.Str.{bytes_eq}
 use Rattle.limits.specs.Limits.{most_workers, most_steps, most_generated_functions}
+use Rattle.s_linear.specs.declared.frame.CodeForm.{CodeForm}
+use Rattle.s_linear.specs.declared.frame.CodeForm.TheVariants.{Plain, Tight}
 use Rattle.cc_command.specs.ParsedArguments.{Text}
-use Rattle.cc_command.specs.Forms.{Form, OptionForm, Value, text, number, absent, command_among}
+use Rattle.cc_command.specs.Forms.{Form, OptionForm, Value, text, number, code, absent, command_among}
 
 -- what the arguments ask for; names are the bytes of their text
 pub data Command : Type 0 where
   -- say whether the source on the input is accepted
   accept : Command
-  -- compile the source to the image under the recipe that a text gives, by so many workers, and report by the watcher of a name
-  build : (source image recipe : Text) → (workers : ℕ) → (report : Option Text) → Command
+  -- compile the source to the image under the recipe that a text gives, by so many workers, in a form of code, and report by the watcher of a name
+  build : (source image recipe : Text) → (workers : ℕ) → (report : Option Text) → CodeForm → Command
   -- run the image of the name for at most this many instructions
   run : List ℕ → (steps : ℕ) → Command
   -- write the generated program of this many functions, whose draws begin with a number, to the file of this name
   generate : (start functions : ℕ) → List ℕ → Command
-  -- say whether the log certifies the image as one of the source
-  check : (source log image : Text) → Command
-  -- edit the source as the input says, function by function, and write each image that it asks for, under the recipe that a text gives, by so many workers
-  session : (source image recipe : Text) → (workers : ℕ) → Command
+  -- say whether the log certifies the image as one of the source in a form of code
+  check : (source log image : Text) → CodeForm → Command
+  -- edit the source as the input says, function by function, and write each image that it asks for, under the recipe that a text gives, by so many workers, in a form of code
+  session : (source image recipe : Text) → (workers : ℕ) → CodeForm → Command
   -- run the source itself, where a loop takes at most so many turns and calls nest at most so deep
   interpret : (source : Text) → (bound : ℕ) → Command
 
@@ -58,10 +61,20 @@ abbrev pub report_of : Value → Option (Option Text)
 report_of (text name) = Some (Some name)
 report_of absent = Some None
 report_of (number n) = None
+report_of (code form) = None
 
--- `build IN OUT [--recipe LIST] [--workers N] [--report NAME]`, LIST and NAME being any texts, N from 1 to the most workers, and 1 where it is not given
+-- the form of code of a name
+abbrev pub code_named : Text → Option CodeForm
+code_named a = if bytes_eq a (codes "tight") then Some Tight else (if bytes_eq a (codes "plain") then Some Plain else None)
+
+abbrev pub read_code : Text → Option Value
+read_code a = option_map code (code_named a)
+
+-- `build IN OUT [--recipe LIST] [--workers N] [--report NAME] [--code FORM]`, LIST and NAME being any texts, N from 1 to the most workers, and 1 where it is
+-- not given, and FORM `plain` or `tight`, and plain where it is not given
 abbrev pub build_of : List Value → Option Command
-build_of (text source ∷ text image ∷ text recipe ∷ number workers ∷ report ∷ []) = option_map (build source image recipe workers) (report_of report)
+build_of (text source ∷ text image ∷ text recipe ∷ number workers ∷ report ∷ code form ∷ []) =
+    option_map (λ name. build source image recipe workers name form) (report_of report)
 build_of _ = None
 
 abbrev pub recipe_option : OptionForm
@@ -73,11 +86,14 @@ workers_option = record { name = codes "workers"; read = read_number 1 most_work
 abbrev pub report_option : OptionForm
 report_option = record { name = codes "report"; read = read_text; default = absent }
 
+abbrev pub code_option : OptionForm
+code_option = record { name = codes "code"; read = read_code; default = code Plain }
+
 abbrev pub build_form : Form Command
 build_form = record {
   name = codes "build";
   positionals = record { name = codes "IN"; read = read_text } ∷ record { name = codes "OUT"; read = read_text } ∷ [];
-  options = recipe_option ∷ workers_option ∷ report_option ∷ [];
+  options = recipe_option ∷ workers_option ∷ report_option ∷ code_option ∷ [];
   command = build_of;
 }
 
@@ -114,9 +130,9 @@ generate_form = record {
   command = generate_of;
 }
 
--- `check IN LOG IMG`
+-- `check IN LOG IMG [--code FORM]`, FORM as of a build
 abbrev pub check_of : List Value → Option Command
-check_of (text source ∷ text log ∷ text image ∷ []) = Some (check source log image)
+check_of (text source ∷ text log ∷ text image ∷ code form ∷ []) = Some (check source log image form)
 check_of _ = None
 
 abbrev pub check_form : Form Command
@@ -127,20 +143,20 @@ check_form = record {
       ∷ record { name = codes "LOG"; read = read_text }
       ∷ record { name = codes "IMG"; read = read_text }
       ∷ [];
-  options = [];
+  options = code_option ∷ [];
   command = check_of;
 }
 
--- `session IN OUT [--recipe LIST] [--workers N]`, LIST and N as of a build
+-- `session IN OUT [--recipe LIST] [--workers N] [--code FORM]`, LIST, N and FORM as of a build
 abbrev pub session_of : List Value → Option Command
-session_of (text source ∷ text image ∷ text recipe ∷ number workers ∷ []) = Some (session source image recipe workers)
+session_of (text source ∷ text image ∷ text recipe ∷ number workers ∷ code form ∷ []) = Some (session source image recipe workers form)
 session_of _ = None
 
 abbrev pub session_form : Form Command
 session_form = record {
   name = codes "session";
   positionals = record { name = codes "IN"; read = read_text } ∷ record { name = codes "OUT"; read = read_text } ∷ [];
-  options = recipe_option ∷ workers_option ∷ [];
+  options = recipe_option ∷ workers_option ∷ code_option ∷ [];
   command = session_of;
 }
 

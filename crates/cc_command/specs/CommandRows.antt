@@ -1,5 +1,6 @@
 -- Lists of arguments with their commands.
 use Rattle.std.specs.Prelude.{◌≡◌, ℕ, List, [], ◌∷◌, Option, Some, None, codes}
+use Rattle.s_linear.specs.declared.frame.CodeForm.TheVariants.{Plain, Tight}
 use Rattle.cc_command.specs.Command.{Command, accept, build as build_by, default_recipe, run, generate, check, session, interpret, command_of}
 
 -- the command of the arguments after the program's name
@@ -8,7 +9,7 @@ command_after_name arguments = command_of (codes "rvcc" ∷ arguments)
 
 -- a build by one worker, without a report
 abbrev pub build : List ℕ → List ℕ → (recipe : List ℕ) → Command
-build source image recipe = build_by source image recipe 1 None
+build source image recipe = build_by source image recipe 1 None Plain
 
 -- how many arguments there are, and what an argument looks like
 pub record BuildRows : Type 0 where
@@ -38,10 +39,10 @@ pub record RecipeRows : Type 0 where
 
 -- the number of workers of `build`
 pub record WorkersRows : Type 0 where
-  pub equals_sign : command_after_name (codes "build" ∷ codes "a" ∷ codes "b" ∷ codes "--recipe=fold" ∷ codes "--workers=3" ∷ []) ≡ Some (build_by (codes "a") (codes "b") (codes "fold") 3 None)
+  pub equals_sign : command_after_name (codes "build" ∷ codes "a" ∷ codes "b" ∷ codes "--recipe=fold" ∷ codes "--workers=3" ∷ []) ≡ Some (build_by (codes "a") (codes "b") (codes "fold") 3 None Plain)
   pub in_front : command_after_name (codes "build" ∷ codes "--workers" ∷ codes "02" ∷ codes "a" ∷ codes "b" ∷ codes "--recipe=fold" ∷ [])
-      ≡ Some (build_by (codes "a") (codes "b") (codes "fold") 2 None)
-  pub greatest : command_after_name (codes "build" ∷ codes "a" ∷ codes "b" ∷ codes "--recipe=" ∷ codes "--workers" ∷ codes "64" ∷ []) ≡ Some (build_by (codes "a") (codes "b") [] 64 None)
+      ≡ Some (build_by (codes "a") (codes "b") (codes "fold") 2 None Plain)
+  pub greatest : command_after_name (codes "build" ∷ codes "a" ∷ codes "b" ∷ codes "--recipe=" ∷ codes "--workers" ∷ codes "64" ∷ []) ≡ Some (build_by (codes "a") (codes "b") [] 64 None Plain)
   pub greater : command_after_name (codes "build" ∷ codes "a" ∷ codes "b" ∷ codes "--workers" ∷ codes "65" ∷ []) ≡ None
   pub no_workers : command_after_name (codes "build" ∷ codes "a" ∷ codes "b" ∷ codes "--workers" ∷ codes "0" ∷ []) ≡ None
   pub empty : command_after_name (codes "build" ∷ codes "a" ∷ codes "b" ∷ codes "--workers=" ∷ []) ≡ None
@@ -53,12 +54,12 @@ pub record WorkersRows : Type 0 where
 -- the report of `build`
 pub record ReportRows : Type 0 where
   pub next_argument : command_after_name (codes "build" ∷ codes "a" ∷ codes "b" ∷ codes "--recipe=fold" ∷ codes "--report" ∷ codes "count" ∷ [])
-      ≡ Some (build_by (codes "a") (codes "b") (codes "fold") 1 (Some (codes "count")))
+      ≡ Some (build_by (codes "a") (codes "b") (codes "fold") 1 (Some (codes "count")) Plain)
   pub in_front : command_after_name (codes "build" ∷ codes "--report=log" ∷ codes "a" ∷ codes "--workers=2" ∷ codes "b" ∷ codes "--recipe=" ∷ [])
-      ≡ Some (build_by (codes "a") (codes "b") [] 2 (Some (codes "log")))
+      ≡ Some (build_by (codes "a") (codes "b") [] 2 (Some (codes "log")) Plain)
   pub any_text : command_after_name (codes "build" ∷ codes "a" ∷ codes "b" ∷ codes "--recipe=fold" ∷ codes "--report" ∷ codes "no name" ∷ [])
-      ≡ Some (build_by (codes "a") (codes "b") (codes "fold") 1 (Some (codes "no name")))
-  pub empty_text : command_after_name (codes "build" ∷ codes "a" ∷ codes "b" ∷ codes "--recipe=fold" ∷ codes "--report=" ∷ []) ≡ Some (build_by (codes "a") (codes "b") (codes "fold") 1 (Some []))
+      ≡ Some (build_by (codes "a") (codes "b") (codes "fold") 1 (Some (codes "no name")) Plain)
+  pub empty_text : command_after_name (codes "build" ∷ codes "a" ∷ codes "b" ∷ codes "--recipe=fold" ∷ codes "--report=" ∷ []) ≡ Some (build_by (codes "a") (codes "b") (codes "fold") 1 (Some []) Plain)
   pub no_value : command_after_name (codes "build" ∷ codes "a" ∷ codes "b" ∷ codes "--report" ∷ []) ≡ None
   pub option_for_value : command_after_name (codes "build" ∷ codes "a" ∷ codes "b" ∷ codes "--report" ∷ codes "--workers=2" ∷ []) ≡ None
   pub twice : command_after_name (codes "build" ∷ codes "a" ∷ codes "b" ∷ codes "--report=log" ∷ codes "--report=log" ∷ []) ≡ None
@@ -118,10 +119,10 @@ pub record GenRows : Type 0 where
 
 -- the names of `check`
 pub record CheckRows : Type 0 where
-  pub three_names : command_after_name (codes "check" ∷ codes "a" ∷ codes "b" ∷ codes "c" ∷ []) ≡ Some (check (codes "a") (codes "b") (codes "c"))
-  pub one_name_thrice : command_after_name (codes "check" ∷ codes "a" ∷ codes "a" ∷ codes "a" ∷ []) ≡ Some (check (codes "a") (codes "a") (codes "a"))
-  pub empty_names : command_after_name (codes "check" ∷ [] ∷ codes "-" ∷ [] ∷ []) ≡ Some (check [] (codes "-") [])
-  pub hyphens_first : command_after_name (codes "check" ∷ codes "--" ∷ codes "-a" ∷ codes "--" ∷ codes "--workers" ∷ []) ≡ Some (check (codes "-a") (codes "--") (codes "--workers"))
+  pub three_names : command_after_name (codes "check" ∷ codes "a" ∷ codes "b" ∷ codes "c" ∷ []) ≡ Some (check (codes "a") (codes "b") (codes "c") Plain)
+  pub one_name_thrice : command_after_name (codes "check" ∷ codes "a" ∷ codes "a" ∷ codes "a" ∷ []) ≡ Some (check (codes "a") (codes "a") (codes "a") Plain)
+  pub empty_names : command_after_name (codes "check" ∷ [] ∷ codes "-" ∷ [] ∷ []) ≡ Some (check [] (codes "-") [] Plain)
+  pub hyphens_first : command_after_name (codes "check" ∷ codes "--" ∷ codes "-a" ∷ codes "--" ∷ codes "--workers" ∷ []) ≡ Some (check (codes "-a") (codes "--") (codes "--workers") Plain)
   pub two_names : command_after_name (codes "check" ∷ codes "a" ∷ codes "b" ∷ []) ≡ None
   pub four_names : command_after_name (codes "check" ∷ codes "a" ∷ codes "b" ∷ codes "c" ∷ codes "d" ∷ []) ≡ None
   pub no_name : command_after_name (codes "check" ∷ []) ≡ None
@@ -132,10 +133,10 @@ pub record CheckRows : Type 0 where
 
 -- the names and options of `session`
 pub record SessionRows : Type 0 where
-  pub two_names : command_after_name (codes "session" ∷ codes "a" ∷ codes "b" ∷ []) ≡ Some (session (codes "a") (codes "b") default_recipe 1)
+  pub two_names : command_after_name (codes "session" ∷ codes "a" ∷ codes "b" ∷ []) ≡ Some (session (codes "a") (codes "b") default_recipe 1 Plain)
   pub both_options : command_after_name (codes "session" ∷ codes "--workers=4" ∷ codes "a" ∷ codes "--recipe" ∷ codes "fold" ∷ codes "b" ∷ [])
-      ≡ Some (session (codes "a") (codes "b") (codes "fold") 4)
-  pub greatest : command_after_name (codes "session" ∷ codes "a" ∷ codes "b" ∷ codes "--recipe=" ∷ codes "--workers" ∷ codes "64" ∷ []) ≡ Some (session (codes "a") (codes "b") [] 64)
+      ≡ Some (session (codes "a") (codes "b") (codes "fold") 4 Plain)
+  pub greatest : command_after_name (codes "session" ∷ codes "a" ∷ codes "b" ∷ codes "--recipe=" ∷ codes "--workers" ∷ codes "64" ∷ []) ≡ Some (session (codes "a") (codes "b") [] 64 Plain)
   pub greater : command_after_name (codes "session" ∷ codes "a" ∷ codes "b" ∷ codes "--workers" ∷ codes "65" ∷ []) ≡ None
   pub no_workers : command_after_name (codes "session" ∷ codes "a" ∷ codes "b" ∷ codes "--workers=0" ∷ []) ≡ None
   pub report : command_after_name (codes "session" ∷ codes "a" ∷ codes "b" ∷ codes "--report" ∷ codes "log" ∷ []) ≡ None
@@ -156,5 +157,20 @@ pub record BoundRows : Type 0 where
   pub two_names : command_after_name (codes "interp" ∷ codes "a" ∷ codes "b" ∷ []) ≡ None
   pub steps : command_after_name (codes "interp" ∷ codes "a" ∷ codes "--steps=3" ∷ []) ≡ None
 
+-- the form of the code of `build`, `check` and `session`
+pub record CodeRows : Type 0 where
+  pub plain : command_after_name (codes "build" ∷ codes "a" ∷ codes "b" ∷ codes "--recipe=fold" ∷ codes "--code=plain" ∷ []) ≡ Some (build (codes "a") (codes "b") (codes "fold"))
+  pub tight : command_after_name (codes "build" ∷ codes "--code" ∷ codes "tight" ∷ codes "a" ∷ codes "b" ∷ codes "--recipe=fold" ∷ [])
+      ≡ Some (build_by (codes "a") (codes "b") (codes "fold") 1 None Tight)
+  pub of_a_check : command_after_name (codes "check" ∷ codes "a" ∷ codes "b" ∷ codes "c" ∷ codes "--code=tight" ∷ []) ≡ Some (check (codes "a") (codes "b") (codes "c") Tight)
+  pub of_a_session : command_after_name (codes "session" ∷ codes "a" ∷ codes "b" ∷ codes "--recipe=fold" ∷ codes "--code=tight" ∷ [])
+      ≡ Some (session (codes "a") (codes "b") (codes "fold") 1 Tight)
+  pub another_case : command_after_name (codes "build" ∷ codes "a" ∷ codes "b" ∷ codes "--code=Tight" ∷ []) ≡ None
+  pub more_letters : command_after_name (codes "build" ∷ codes "a" ∷ codes "b" ∷ codes "--code=plainer" ∷ []) ≡ None
+  pub empty_text : command_after_name (codes "build" ∷ codes "a" ∷ codes "b" ∷ codes "--code=" ∷ []) ≡ None
+  pub no_value : command_after_name (codes "build" ∷ codes "a" ∷ codes "b" ∷ codes "--code" ∷ []) ≡ None
+  pub twice : command_after_name (codes "build" ∷ codes "a" ∷ codes "b" ∷ codes "--code=tight" ∷ codes "--code=tight" ∷ []) ≡ None
+  pub of_a_run : command_after_name (codes "run" ∷ codes "a" ∷ codes "--code=tight" ∷ []) ≡ None
+
 abbrev pub CommandRows : Type 0
-CommandRows = BuildRows × RecipeRows × WorkersRows × ReportRows × RunRows × OtherRows × GenRows × CheckRows × SessionRows × BoundRows
+CommandRows = BuildRows × RecipeRows × WorkersRows × ReportRows × CodeRows × RunRows × OtherRows × GenRows × CheckRows × SessionRows × BoundRows

@@ -2,6 +2,7 @@
 use Rattle.std.specs.Prelude.{ℕ, Bool, ◌||◌, List, [], ◌∷◌, ◌++◌, Option, Some, None, codes, find, if◌then◌else◌, map, option_and_then}
 use Rattle.std.specs.List.{list_any}
 use Rattle.std.specs.Str.{bytes_eq}
+use Rattle.s_linear.specs.declared.frame.CodeForm.{CodeForm}
 use Rattle.cc_command.specs.ParsedArguments.{Text, ParsedArguments, parsed, value_of}
 
 infixl 10 ◌>>=◌
@@ -11,6 +12,7 @@ o >>= f = option_and_then f o
 pub data Value : Type 0 where
   text : Text → Value
   number : ℕ → Value
+  code : CodeForm → Value
   -- that of an option which is not given, where it has no other
   absent : Value
 

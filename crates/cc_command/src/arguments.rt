@@ -6,8 +6,8 @@ ghost use Rattle.limits.specs.Limits.{most_workers};
 ghost use Rattle.clap.specs.Words.{app_of, first_of, found_of, rows_of, shape_of, subcommand_rows_of};
 ghost use Rattle.clap.specs.declared.builder.command.Command.TheViews.{out-Command as fields_of};
 ghost use Rattle.cc_command.specs.Arguments.{rvcc, shape_of_form};
-ghost use Rattle.cc_command.specs.Command.{bound_option, command_of, build_form, check_form, forms, generate_form, interp_form, recipe_option, run_form, session_form, steps_option, workers_option};
-ghost use Rattle.cc_command.specs.Forms.{form_named, number, text, value_or_default};
+ghost use Rattle.cc_command.specs.Command.{bound_option, code_option, command_of, build_form, check_form, forms, generate_form, interp_form, recipe_option, run_form, session_form, steps_option, workers_option};
+ghost use Rattle.cc_command.specs.Forms.{code, form_named, number, text, value_or_default};
 ghost use Rattle.cc_command.specs.Reading.{found_by, read_by, read_command};
 ghost use Rattle.cc_command.specs.PlainCommand.{plain_command, IsInRange};
 
@@ -16,6 +16,7 @@ use crate::reader::{help_is_asked, value, with_option, with_required};
 use clap::error::ErrorKind;
 use clap::{ArgMatches, Command as Reader};
 use limits::{MOST_GENERATED_FUNCTIONS, MOST_STEPS, MOST_WORKERS};
+use s_linear::CodeForm;
 use std::alloc::{AllocError, Global};
 
 /// What the arguments of a command line ask for.
@@ -23,17 +24,18 @@ use std::alloc::{AllocError, Global};
 pub enum Command<'a> {
     /// No arguments: say whether the source on the input is accepted.
     Accept,
-    /// `build IN OUT [--recipe LIST] [--workers N] [--report NAME]`: compile the source named IN to
+    /// `build IN OUT [--recipe LIST] [--workers N] [--report NAME] [--code FORM]`: compile the source named IN to
     /// the image named OUT under the recipe LIST, which may be any text; the default recipe where
     /// it is not given. N workers, 1 to `MOST_WORKERS`, make the functions; 1 where N is not given.
     /// NAME, any text too, is the name of the watcher that reports; no report where it is not
-    /// given.
+    /// given. FORM is `plain` or `tight`; plain where it is not given.
     Build {
         source: &'a str,
         image: &'a str,
         recipe: &'a str,
         workers: u32,
         report: Option<&'a str>,
+        form: CodeForm,
     },
     /// `run IMG [--steps N]`: run the image named IMG for at most N instructions, 1 to
     /// `MOST_STEPS`; 10^9 where N is not given.
@@ -48,21 +50,23 @@ pub enum Command<'a> {
         functions: u32,
         out: &'a str,
     },
-    /// `check IN LOG IMG`: say whether the log in the file named LOG certifies the image in the one
-    /// named IMG as an image of the source in the one named IN.
+    /// `check IN LOG IMG [--code FORM]`: say whether the log in the file named LOG certifies the image
+    /// in the one named IMG as an image of the source in the one named IN, in the form of a build.
     Check {
         source: &'a str,
         log: &'a str,
         image: &'a str,
+        form: CodeForm,
     },
-    /// `session IN OUT [--recipe LIST] [--workers N]`: edit the source named IN as the input says,
+    /// `session IN OUT [--recipe LIST] [--workers N] [--code FORM]`: edit the source named IN as the input says,
     /// function by function, and write each image that it asks for to the file named OUT, under the
-    /// recipe LIST and by N workers, as of a build.
+    /// recipe LIST, by N workers and in FORM, as of a build.
     Session {
         source: &'a str,
         image: &'a str,
         recipe: &'a str,
         workers: u32,
+        form: CodeForm,
     },
     /// `interp IN [--bound N]`: run the source named IN itself, where a loop takes at most N turns
     /// and calls nest at most N deep, 1 to 1,000,000; 1,000,000 where N is not given.
@@ -80,7 +84,8 @@ fn build_arguments<'a>(alloc: Global) -> Result<Reader<'a>, AllocError>
     let command = with_required(alloc, command, "OUT")?;
     let command = with_option(alloc, command, "recipe")?;
     let command = with_option(alloc, command, "workers")?;
-    with_option(alloc, command, "report")
+    let command = with_option(alloc, command, "report")?;
+    with_option(alloc, command, "code")
 }
 
 fn run_arguments<'a>(alloc: Global) -> Result<Reader<'a>, AllocError>
@@ -106,7 +111,8 @@ fn check_arguments<'a>(alloc: Global) -> Result<Reader<'a>, AllocError>
 {
     let command = with_required(alloc, Reader::new(alloc, "check"), "IN")?;
     let command = with_required(alloc, command, "LOG")?;
-    with_required(alloc, command, "IMG")
+    let command = with_required(alloc, command, "IMG")?;
+    with_option(alloc, command, "code")
 }
 
 fn session_arguments<'a>(alloc: Global) -> Result<Reader<'a>, AllocError>
@@ -116,7 +122,8 @@ fn session_arguments<'a>(alloc: Global) -> Result<Reader<'a>, AllocError>
     let command = with_required(alloc, Reader::new(alloc, "session"), "IN")?;
     let command = with_required(alloc, command, "OUT")?;
     let command = with_option(alloc, command, "recipe")?;
-    with_option(alloc, command, "workers")
+    let command = with_option(alloc, command, "workers")?;
+    with_option(alloc, command, "code")
 }
 
 fn interpret_arguments<'a>(alloc: Global) -> Result<Reader<'a>, AllocError>
@@ -166,6 +173,19 @@ fn workers_in(arguments: &ArgMatches<'_>) -> Option<u32>
     }
 }
 
+/// The form of the code that a build makes.
+fn code_in(arguments: &ArgMatches<'_>) -> Option<CodeForm>
+    ensures { option_map code result
+        ≡ value_or_default code_option
+        (first_of code_option.name (rows_of (found_of arguments.now))) }
+{
+    match value(arguments, "code") {
+        Some("tight") => Some(CodeForm::Tight),
+        Some("plain") | None => Some(CodeForm::Plain),
+        Some(_) => None,
+    }
+}
+
 fn build_in<'a>(arguments: &ArgMatches<'a>) -> Option<Command<'a>>
     ensures command { option_map plain_command result
         ≡ read_by build_form (rows_of (found_of arguments.now)) }
@@ -177,6 +197,7 @@ fn build_in<'a>(arguments: &ArgMatches<'a>) -> Option<Command<'a>>
         recipe: recipe_in(arguments),
         workers: workers_in(arguments)?,
         report: value(arguments, "report"),
+        form: code_in(arguments)?,
     })
 }
 
@@ -223,6 +244,7 @@ fn check_in<'a>(arguments: &ArgMatches<'a>) -> Option<Command<'a>>
         source: value(arguments, "IN")?,
         log: value(arguments, "LOG")?,
         image: value(arguments, "IMG")?,
+        form: code_in(arguments)?,
     })
 }
 
@@ -236,6 +258,7 @@ fn session_in<'a>(arguments: &ArgMatches<'a>) -> Option<Command<'a>>
         image: value(arguments, "OUT")?,
         recipe: recipe_in(arguments),
         workers: workers_in(arguments)?,
+        form: code_in(arguments)?,
     })
 }
 

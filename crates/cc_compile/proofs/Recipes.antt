@@ -5,7 +5,7 @@ use Rattle.g_graph.specs.Program.{lambda_values}
 use Rattle.g_build_def.specs.Functions.{graph, omega}
 use Rattle.g_build_laws.specs.BuiltLaws.{WellTypedAreBuilt}
 use Rattle.g_pass_def.specs.Laws.{AnswersAreUnique, UnsweptAnswersAreLambdas}
-use Rattle.g_pass.specs.Sweep.{rules}
+use Rattle.g_pass_keeps.specs.g_pass.Sweep.{rules}
 use Rattle.g_pass_keeps.specs.Laws.{AnswersKeepLists}
 use Rattle.cc_emit_def.specs.Image.{file_of_program, lambdas_of}
 use Rattle.cc_source_keeps.specs.Laws.{KeptListsCanBeEmitted}
@@ -16,11 +16,11 @@ answers_can_be_emitted built can keep p typed checked few recipe answers made =
     can p typed checked few (lambdas_of answers) (keep recipe (graph p) answers (built p typed).complete made)
 
 pub one_image : AnswersAreUnique → OneImage
-one_image unique recipe p bytes others a b =
-    a.file ∙ (ap (λ xs. file_of_program (omega p) (lambdas_of xs)) (unique rules recipe (graph p) a.answers b.answers a.made b.made) ∙ sym b.file)
+one_image unique recipe form p bytes others a b =
+    a.file ∙ (ap (λ xs. file_of_program form (omega p) (lambdas_of xs)) (unique rules recipe (graph p) a.answers b.answers a.made b.made) ∙ sym b.file)
 
 pub one_list_of_rows : AnswersAreUnique → OneListOfRows
-one_list_of_rows unique recipe p bytes others rows more a b =
+one_list_of_rows unique recipe form p bytes others rows more a b =
     a.1 ∙ (ap (rows_of p) (unique rules recipe (graph p) a.0.answers b.0.answers a.0.made b.0.made) ∙ sym b.1)
 
 -- the lambdas of answers that are the lambdas as they are
@@ -29,5 +29,5 @@ lambdas_again [] = refl
 lambdas_again (l ∷ ls) = ap (λ ks. l ∷ ks) (lambdas_again ls)
 
 pub unswept_image : UnsweptAnswersAreLambdas → UnsweptImage
-unswept_image unswept p bytes a =
-    a.file ∙ ap (file_of_program (omega p)) (ap lambdas_of (unswept rules (graph p) a.answers a.made) ∙ lambdas_again (graph p))
+unswept_image unswept form p bytes a =
+    a.file ∙ ap (file_of_program form (omega p)) (ap lambdas_of (unswept rules (graph p) a.answers a.made) ∙ lambdas_again (graph p))

@@ -9,19 +9,20 @@ use Rattle.g_graph.specs.Program.{lambda_values}
 use Rattle.g_build_def.specs.Functions.{graph, omega}
 use Rattle.g_build.specs.Passed.{limit_passed}
 use Rattle.g_pass_def.specs.Answers.{AreAnswers}
-use Rattle.g_pass.specs.Sweep.{rules}
+use Rattle.g_pass_keeps.specs.g_pass.Sweep.{rules}
+use Rattle.s_linear.specs.declared.frame.CodeForm.{CodeForm}
 use Rattle.cc_emit_def.specs.Image.{file_of_program, lambdas_of, CanEmit}
 use Rattle.cc_watch.specs.Rows.{PlainRow}
 
--- the image of a program whose functions are as they are built
-abbrev pub image_of : ProgramTree → List ℕ
-image_of p = file_of_program (omega p) (graph p)
+-- the image, in a form of code, of a program whose functions are as they are built
+abbrev pub image_of : CodeForm → ProgramTree → List ℕ
+image_of form p = file_of_program form (omega p) (graph p)
 
--- These bytes are the image of a typed program under a recipe: its functions are what the recipe makes of its lambdas.
-pub record IsImageUnder (recipe : List Rule) (p : ProgramTree) (bytes : List ℕ) : Type 0 where
+-- These bytes are the image of a typed program under a recipe, in a form of code: its functions are what the recipe makes of its lambdas.
+pub record IsImageUnder (recipe : List Rule) (form : CodeForm) (p : ProgramTree) (bytes : List ℕ) : Type 0 where
   pub answers : List PlainOptimised
   pub made : AreAnswers rules recipe (graph p) answers
-  pub file : bytes ≡ file_of_program (omega p) (lambdas_of answers)
+  pub file : bytes ≡ file_of_program form (omega p) (lambdas_of answers)
 
 -- what a recipe did to a function
 abbrev pub row_of : FunctionTree → (answer : PlainOptimised) → PlainRow
@@ -32,8 +33,8 @@ abbrev pub rows_of : ProgramTree → (answers : List PlainOptimised) → List Pl
 rows_of p answers = map (λ (q : FunctionTree × PlainOptimised). row_of q.0 q.1) (zip p.functions answers)
 
 -- These bytes are its image under a recipe, and these rows tell what the recipe did to its functions.
-abbrev pub IsCompiledUnder : (recipe : List Rule) → ProgramTree → (bytes : List ℕ) → (rows : List PlainRow) → Type 0
-IsCompiledUnder recipe p bytes rows = (image : IsImageUnder recipe p bytes) × (rows ≡ rows_of p image.answers)
+abbrev pub IsCompiledUnder : (recipe : List Rule) → CodeForm → ProgramTree → (bytes : List ℕ) → (rows : List PlainRow) → Type 0
+IsCompiledUnder recipe form p bytes rows = (image : IsImageUnder recipe form p bytes) × (rows ≡ rows_of p image.answers)
 
 -- ---- laws
 
@@ -43,15 +44,17 @@ AnswersCanBeEmitted =
     (p : ProgramTree) → IsWellTyped p → above_limits p ≡ None → limit_passed p.functions ≡ None →
     (recipe : List Rule) (answers : List PlainOptimised) → AreAnswers rules recipe (graph p) answers → CanEmit (omega p) (lambdas_of answers)
 
--- A program has at most one image under a recipe, and one list of rows,
+-- A program has at most one image under a recipe in each form, and one list of rows,
 abbrev pub OneImage : Type 0
-OneImage = (recipe : List Rule) (p : ProgramTree) (bytes others : List ℕ) → IsImageUnder recipe p bytes → IsImageUnder recipe p others → bytes ≡ others
+OneImage =
+    (recipe : List Rule) (form : CodeForm) (p : ProgramTree) (bytes others : List ℕ) → IsImageUnder recipe form p bytes → IsImageUnder recipe form p others
+    → bytes ≡ others
 
 abbrev pub OneListOfRows : Type 0
 OneListOfRows =
-    (recipe : List Rule) (p : ProgramTree) (bytes others : List ℕ) (rows more : List PlainRow) → IsCompiledUnder recipe p bytes rows →
-    IsCompiledUnder recipe p others more → rows ≡ more
+    (recipe : List Rule) (form : CodeForm) (p : ProgramTree) (bytes others : List ℕ) (rows more : List PlainRow) → IsCompiledUnder recipe form p bytes rows →
+    IsCompiledUnder recipe form p others more → rows ≡ more
 
 -- and under the recipe without a sweep the image is that of the functions as they are built.
 abbrev pub UnsweptImage : Type 0
-UnsweptImage = (p : ProgramTree) (bytes : List ℕ) → IsImageUnder [] p bytes → bytes ≡ image_of p
+UnsweptImage = (form : CodeForm) (p : ProgramTree) (bytes : List ℕ) → IsImageUnder [] form p bytes → bytes ≡ image_of form p

@@ -1,2 +1,6 @@
 pub mod Compiled
 pub mod RecipeText
+-- What is passed on of the libraries below.
+pub use Rattle.cc_source_keeps.specs.cc_source
+pub use Rattle.cc_source_keeps.specs as cc_source_keeps
+pub use Rattle.g_pass_keeps.specs.g_pass

@@ -4,6 +4,13 @@
 //! Always: a fault is that of the phase that refuses the source.
 #![tactic(auto)]
 
+// What is passed on of the libraries below.
+pub use cc_source_keeps;
+pub use cc_source_keeps::cc_source;
+pub use g_pass_keeps;
+pub use g_pass_keeps::g_pass;
+pub use g_pass_work;
+
 pub mod laws;
 mod recipe;
 mod rows;

@@ -23,10 +23,11 @@ use cc_source_keeps::laws::{programs_can_be_emitted, unlimited_are_small};
 use cc_watch::Row;
 use g_build::{BuildFault, build};
 use g_graph::{Omega, Optimised};
-use g_pass::Recipe;
+use g_pass_keeps::g_pass::Recipe;
 use g_pass_work::{answers, answers_by_workers};
 use no_memory::NoMemory;
 use rv_layout::Item;
+use s_linear::CodeForm;
 use std::alloc::Global;
 use std::sync::{Arc, Wait};
 use std::thread::Threads;
@@ -58,18 +59,24 @@ pub fn file_of_items(
 }
 
 // The file of a program, of whose functions a recipe makes these.
-fn file_with(alloc: Global, omega: &Omega, all: &[Arc<Optimised>]) -> Result<Vec<u8>, NoMemory>
+fn file_with(
+    alloc: Global,
+    form: CodeForm,
+    omega: &Omega,
+    all: &[Arc<Optimised>],
+) -> Result<Vec<u8>, NoMemory>
     requires { CanEmit omega.now (lambdas_of (map arc_value all.now)) }
     ensures { IfOk result (λ file.
-        file.items ≡ file_of_program omega.now (lambdas_of (map arc_value all.now))) }
+        file.items ≡ file_of_program form omega.now (lambdas_of (map arc_value all.now))) }
 {
-    let functions = all_items(alloc, all)?;
+    let functions = all_items(alloc, form, all)?;
     file_of_items(alloc, omega, &functions)
 }
 
 // What a typed program is compiled to, of whose functions a recipe makes these.
 fn compiled_with(
     alloc: Global,
+    form: CodeForm,
     typed: &Typed,
     omega: &Omega,
     all: &[Arc<Optimised>],
@@ -77,11 +84,11 @@ fn compiled_with(
     requires few { length typed.now.functions ≤ most_functions }
     requires image { CanEmit omega.now (lambdas_of (map arc_value all.now)) }
     ensures compiled { IfOk result (λ c.
-        (c.image.items ≡ file_of_program omega.now (lambdas_of (map arc_value all.now)))
+        (c.image.items ≡ file_of_program form omega.now (lambdas_of (map arc_value all.now)))
         × (c.rows.items ≡ rows_of typed.now (map arc_value all.now))) }
     ensures functions { IfOk result (λ c. c.functions ≡ length typed.now.functions) }
 {
-    let image = file_with(alloc, omega, all)?;
+    let image = file_with(alloc, form, omega, all)?;
     let rows = rows_of(alloc, typed, all)?;
     Ok(Compiled {
         image,
@@ -96,20 +103,21 @@ fn compiled_of(
     typed: &Typed,
     program: &Omega,
     recipe: &Recipe,
+    form: CodeForm,
 ) -> Result<Compiled, NoMemory>
     requires graph { program.now ≡ omega typed.now }
     requires typed { IsWellTyped typed.now }
     requires limits { above_limits typed.now ≡ None }
     requires values { limit_passed typed.now.functions ≡ None }
     ensures compiled { IfOk result (λ c.
-        IsCompiledUnder recipe.now typed.now c.image.items c.rows.items) }
+        IsCompiledUnder recipe.now form typed.now c.image.items c.rows.items) }
     ensures functions { IfOk result (λ c. c.functions ≡ length typed.now.functions) }
 {
     unlimited_are_small();
     programs_can_be_emitted();
     answers_can_be_emitted();
     let all = answers(alloc, &program.lambdas, recipe)?;
-    compiled_with(alloc, typed, program, &all)
+    compiled_with(alloc, form, typed, program, &all)
 }
 
 // The same, where so many workers make the functions.
@@ -119,6 +127,7 @@ fn compiled_by_workers<H: Threads + Wait + Sync, G: Gate>(
     typed: &Typed,
     program: &Omega,
     recipe: &Recipe,
+    form: CodeForm,
     workers: u32,
     gate: &G,
 ) -> Result<Compiled, NoMemory>
@@ -129,28 +138,33 @@ fn compiled_by_workers<H: Threads + Wait + Sync, G: Gate>(
     requires some_worker { 0 < workers }
     requires few_workers { workers ≤ most_workers }
     ensures compiled { IfOk result (λ c.
-        IsCompiledUnder recipe.now typed.now c.image.items c.rows.items) }
+        IsCompiledUnder recipe.now form typed.now c.image.items c.rows.items) }
     ensures functions { IfOk result (λ c. c.functions ≡ length typed.now.functions) }
 {
     unlimited_are_small();
     programs_can_be_emitted();
     answers_can_be_emitted();
     let all = answers_by_workers(rt, alloc, &program.lambdas, recipe, workers, gate)?;
-    compiled_with(alloc, typed, program, &all)
+    compiled_with(alloc, form, typed, program, &all)
 }
 
-/// What a well-typed program is compiled to under a recipe, where the program is within the limits
+/// What a well-typed program is compiled to under a recipe, in this form, where the program is within the limits
 /// 1 to 4 of programs. `Limit` exactly where its functions pass a limit of values.
-pub fn compile_typed(alloc: Global, typed: &Typed, recipe: &Recipe) -> Result<Compiled, BuildFault>
+pub fn compile_typed(
+    alloc: Global,
+    typed: &Typed,
+    recipe: &Recipe,
+    form: CodeForm,
+) -> Result<Compiled, BuildFault>
     requires typed { IsWellTyped typed.now }
     requires limits { above_limits typed.now ≡ None }
     ensures compiled { IfOk result (λ c.
-        IsCompiledUnder recipe.now typed.now c.image.items c.rows.items) }
+        IsCompiledUnder recipe.now form typed.now c.image.items c.rows.items) }
     ensures functions { IfOk result (λ c. c.functions ≡ length typed.now.functions) }
     ensures limit { limit_named result ≡ limit_passed typed.now.functions }
 {
     let omega = build(alloc, typed)?;
-    Ok(compiled_of(alloc, typed, &omega, recipe)?)
+    Ok(compiled_of(alloc, typed, &omega, recipe, form)?)
 }
 
 /// What a well-typed program is compiled to, as `compile_typed` has it, where 1 to `MOST_WORKERS`
@@ -160,6 +174,7 @@ pub(crate) fn compile_typed_by_workers<H: Threads + Wait + Sync, G: Gate>(
     alloc: Global,
     typed: &Typed,
     recipe: &Recipe,
+    form: CodeForm,
     workers: u32,
     gate: &G,
 ) -> Result<Compiled, BuildFault>
@@ -168,10 +183,10 @@ pub(crate) fn compile_typed_by_workers<H: Threads + Wait + Sync, G: Gate>(
     requires some_worker { 0 < workers }
     requires few_workers { workers ≤ most_workers }
     ensures compiled { IfOk result (λ c.
-        IsCompiledUnder recipe.now typed.now c.image.items c.rows.items) }
+        IsCompiledUnder recipe.now form typed.now c.image.items c.rows.items) }
     ensures functions { IfOk result (λ c. c.functions ≡ length typed.now.functions) }
     ensures limit { limit_named result ≡ limit_passed typed.now.functions }
 {
     let omega = build(alloc, typed)?;
-    Ok(compiled_by_workers(rt, alloc, typed, &omega, recipe, workers, gate)?)
+    Ok(compiled_by_workers(rt, alloc, typed, &omega, recipe, form, workers, gate)?)
 }

@@ -4,6 +4,7 @@ use Rattle.c_type.specs.Trees.{scalar_type}
 use Rattle.c_type.specs.declared.scalar.Scalar.TheVariants.{Int}
 use Rattle.c_typed.specs.Typed.{FunctionTree, ProgramTree, expr, constant, return_value, stmt_then, no_items}
 use Rattle.g_build_def.specs.Functions.{graph, omega}
+use Rattle.s_linear.specs.declared.frame.CodeForm.TheVariants.{Plain}
 use Rattle.cc_emit_def.specs.Image.{file_of_program}
 
 -- `int main(void) { return N; }`, N being an `int`, with the name and the definition at these offsets
@@ -23,6 +24,6 @@ abbrev pub constant_program : (at starts ends n : ℕ) → ProgramTree
 constant_program at starts ends n =
     record { structs = []; functions = constant_function at starts ends n ∷ []; globals = []; main = 0 }
 
--- its image, wherever it stands in the source
+-- its plain image, wherever it stands in the source
 abbrev pub image_of_constant : (at starts ends n : ℕ) → List ℕ
-image_of_constant at starts ends n = file_of_program (omega (constant_program at starts ends n)) (graph (constant_program at starts ends n))
+image_of_constant at starts ends n = file_of_program Plain (omega (constant_program at starts ends n)) (graph (constant_program at starts ends n))

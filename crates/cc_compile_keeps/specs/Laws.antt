@@ -7,22 +7,24 @@ use Rattle.g_build_def.specs.Functions.{graph, omega}
 use Rattle.g_build_keeps.specs.Laws.{HasMeaning}
 use Rattle.g_pass_def.specs.Answers.{AreAnswers}
 use Rattle.g_pass_def.specs.Laws.{HoldsDeps, with_answers}
-use Rattle.g_pass.specs.Sweep.{rules}
+use Rattle.g_pass_keeps.specs.g_pass.Sweep.{rules}
+use Rattle.s_linear.specs.declared.frame.CodeForm.{CodeForm}
 use Rattle.cc_emit_def.specs.Image.{file_of_program, lambdas_of}
 use Rattle.cc_source_laws.specs.SourceLaws.{AreBytes}
-use Rattle.cc_source.specs.Accepted.{Accepts}
+use Rattle.cc_source_keeps.specs.cc_source.Accepted.{Accepts}
 use Rattle.cc_source_keeps.specs.Meaning.{KeepsMeaning}
 
--- The image of a source that is accepted does what its program does.
+-- The image of a source that is accepted, in each form of code, does what its program does.
 abbrev pub AcceptedSourcesKeepMeaning : Type 0
 AcceptedSourcesKeepMeaning =
-    (source : List ℕ) → AreBytes source → (p : ProgramTree) → Accepts source p → KeepsMeaning p (graph p) (file_of_program (omega p) (graph p))
+    (form : CodeForm) (source : List ℕ) → AreBytes source → (p : ProgramTree) → Accepts source p
+    → KeepsMeaning form p (graph p) (file_of_program form (omega p) (graph p))
 
 -- And so does its image under a recipe, with what the recipe makes of the lambdas.
 abbrev pub RecipesKeepMeaning : Type 0
 RecipesKeepMeaning =
-    (source : List ℕ) → AreBytes source → (p : ProgramTree) → Accepts source p → (recipe : List Rule) (answers : List PlainOptimised) →
-    AreAnswers rules recipe (graph p) answers → KeepsMeaning p (lambdas_of answers) (file_of_program (omega p) (lambdas_of answers))
+    (form : CodeForm) (source : List ℕ) → AreBytes source → (p : ProgramTree) → Accepts source p → (recipe : List Rule) (answers : List PlainOptimised) →
+    AreAnswers rules recipe (graph p) answers → KeepsMeaning form p (lambdas_of answers) (file_of_program form (omega p) (lambdas_of answers))
 
 -- This holds of each list that has the answers of a set of functions, and the built lambdas of the others: for every source
 -- that is accepted, every recipe, and every set that has what each of its members calls in other units.
@@ -38,4 +40,4 @@ SomeAnswersHaveMeaning = WithSomeAnswers HasMeaning
 
 -- and its image does what the program does.
 abbrev pub SomeAnswersKeepMeaning : Type 0
-SomeAnswersKeepMeaning = WithSomeAnswers (λ p ks. KeepsMeaning p ks (file_of_program (omega p) ks))
+SomeAnswersKeepMeaning = (form : CodeForm) → WithSomeAnswers (λ p ks. KeepsMeaning form p ks (file_of_program form (omega p) ks))

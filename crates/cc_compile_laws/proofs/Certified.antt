@@ -22,19 +22,20 @@ use Rattle.g_pass_def.specs.Answers.{AreAnswers, lambdas_of}
 use Rattle.g_pass_def.specs.Laws.{AnswersAreReplayed}
 use Rattle.g_pass_def.specs.Replayed.{AreReplayed}
 use Rattle.g_pass_def.proofs.lemmas.Answers.{made-of}
-use Rattle.g_pass.specs.Sweep.{rules}
-use Rattle.g_pass_keeps.specs.Laws.{AnswersKeepLists}
+use Rattle.g_pass_laws.specs.g_pass.Sweep.{rules}
+use Rattle.g_pass_laws.specs.g_pass_keeps.Laws.{AnswersKeepLists}
 use Rattle.g_pass_laws.specs.Laws.{AnswersHaveFewSteps}
 use Rattle.c_check_names_laws.specs.NamesLaws.{IsName, FunctionsHaveNames}
+use Rattle.s_linear.specs.declared.frame.CodeForm.{CodeForm}
 use Rattle.cc_emit_def.specs.Image.{CanEmit, file_of_program}
 use Rattle.cc_watch.specs.Rows.{PlainRow}
 use Rattle.cc_watch.specs.Texts.{log_text}
 use Rattle.cc_source_laws.specs.SourceLaws.{CheckedAreWellTyped, TokensAreInRange}
-use Rattle.cc_source_keeps.specs.Laws.{KeptListsCanBeEmitted, ProgramsCanBeEmitted}
-use Rattle.cc_source_keeps.proofs.lemmas.Small.{graph_may_grow}
+use Rattle.log_judge.specs.cc_source_keeps.Laws.{KeptListsCanBeEmitted, ProgramsCanBeEmitted}
+use Rattle.log_judge.proofs.of_cc_source_keeps.lemmas.Small.{graph_may_grow}
 use Rattle.cc_compile.specs.Compiled.{IsImageUnder, rows_of}
 use Rattle.log_check.specs.Log.{IsLogOf, most_log_bytes, parts_of}
-use Rattle.log_replay.specs.Right.{AreRight}
+use Rattle.log_judge.specs.log_replay.Right.{AreRight}
 use Rattle.log_judge.specs.Judgement.{IsRead, IsCertified, Certifies}
 use Rattle.cc_compile_laws.specs.Laws.{LogsCertifyImages}
 use Rattle.cc_compile_laws.proofs.Rows.{Fits, AllFit, all_fit, rows_fit, log_bytes, parts_are_rows, names_are, steps_are, counts_are}
@@ -113,28 +114,28 @@ module _ (ranked : OrdersAreRanked) (few_steps : AnswersHaveFewSteps) (few_numbe
     counts = counts_are recipe p.functions (graph p) answers fit 1;
   }
 
-  pub certified : (bytes : List ℕ) (image : IsImageUnder recipe p bytes) → image.answers ≡ answers → IsCertified p (log_text (rows_of p answers)) bytes
-  certified bytes image same = record {
+  pub certified : (form : CodeForm) (bytes : List ℕ) (image : IsImageUnder recipe form p bytes) → image.answers ≡ answers → IsCertified p form (log_text (rows_of p answers)) bytes
+  certified form bytes image same = record {
     functions = parts_of (rows_of p answers);
     read = read;
     named = names_are recipe p.functions (graph p) answers fit 1;
     lambdas = lambdas_of answers;
     right = right;
-    file = image.file ∙ ap (λ (xs : List PlainOptimised). file_of_program (built.omega p) (lambdas_of xs)) same;
+    file = image.file ∙ ap (λ (xs : List PlainOptimised). file_of_program form (built.omega p) (lambdas_of xs)) same;
   }
 
 pub logs_certify_images : TokensAreInRange → CheckedAreWellTyped → FunctionsHaveNames → WellTypedAreBuilt → NumbersAreFew → ProgramsCanBeEmitted → KeptListsCanBeEmitted → OrdersAreRanked →
     AnswersAreReplayed → AnswersKeepLists → AnswersHaveFewSteps → LogsCertifyImages
-logs_certify_images in_range checked_typed have_names built few_numbers programs lists ranked replayed kept few_steps source bytes p accepted recipe sweeps image rows compiled =
+logs_certify_images in_range checked_typed have_names built few_numbers programs lists ranked replayed kept few_steps source bytes p accepted recipe sweeps form image rows compiled =
     let checks = accepted.checks in
     let has = checks.has_tree in
     let typed = checked_typed source bytes has.tokens has.lexed checks.tree has.tree.shaped.0 has.tree.spells (length source) p checks.checked in
     let named = have_names source has.tokens has.lexed (in_range source bytes has.tokens has.lexed) checks.tree has.tree.shaped.0 has.tree.spells (length source) p checks.checked in
-    subst (λ (xs : List PlainRow). Certifies source (log_text xs) image) (sym compiled.1)
+    subst (λ (xs : List PlainRow). Certifies source form (log_text xs) image) (sym compiled.1)
     (record {
       program = p;
       accepted = accepted;
       certified =
           certified ranked few_steps few_numbers kept programs lists replayed p typed.0 typed.1 accepted.within named (built p typed.0).complete recipe sweeps
-          compiled.0.answers compiled.0.made image compiled.0 refl;
+          compiled.0.answers compiled.0.made form image compiled.0 refl;
     })

@@ -16,7 +16,7 @@ use Rattle.cc_watch.specs.Rows.{PlainRow}
 use Rattle.cc_watch.specs.Texts.{row_text, log_text}
 use Rattle.cc_compile.specs.Compiled.{row_of}
 use Rattle.log_check.specs.Log.{IsRow, PlainPart, parts_from, row_of_part}
-use Rattle.log_replay.specs.Right.{part_at, HasCounts}
+use Rattle.log_judge.specs.log_replay.Right.{part_at, HasCounts}
 use Rattle.cc_compile_laws.proofs.Texts.{row_length}
 
 abbrev pub rows_from : List FunctionTree → (answers : List PlainOptimised) → List PlainRow

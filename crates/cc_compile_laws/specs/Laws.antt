@@ -3,10 +3,11 @@ use Rattle.std.specs.Prelude.{◌≤◌, ℕ, List, length}
 use Rattle.limits.specs.Limits.{most_sweeps}
 use Rattle.c_typed.specs.Typed.{ProgramTree}
 use Rattle.g_graph.specs.declared.steps.Rule.{Rule}
+use Rattle.s_linear.specs.declared.frame.CodeForm.{CodeForm}
 use Rattle.cc_watch.specs.Rows.{PlainRow}
 use Rattle.cc_watch.specs.Texts.{log_text}
 use Rattle.cc_source_laws.specs.SourceLaws.{AreBytes}
-use Rattle.cc_source.specs.Accepted.{Accepts}
+use Rattle.log_judge.specs.cc_source.Accepted.{Accepts}
 use Rattle.cc_compile.specs.Compiled.{IsCompiledUnder}
 use Rattle.log_judge.specs.Judgement.{Certifies}
 
@@ -15,4 +16,4 @@ use Rattle.log_judge.specs.Judgement.{Certifies}
 abbrev pub LogsCertifyImages : Type 0
 LogsCertifyImages =
     (source : List ℕ) → AreBytes source → (p : ProgramTree) → Accepts source p → (recipe : List Rule) → length recipe ≤ most_sweeps →
-    (bytes : List ℕ) (rows : List PlainRow) → IsCompiledUnder recipe p bytes rows → Certifies source (log_text rows) bytes
+    (form : CodeForm) (bytes : List ℕ) (rows : List PlainRow) → IsCompiledUnder recipe form p bytes rows → Certifies source form (log_text rows) bytes

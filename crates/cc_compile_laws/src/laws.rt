@@ -13,9 +13,9 @@ pub fn logs_certify_images()
     c_check_names_laws::laws::functions_have_names();
     g_build_laws::laws::well_typed_are_built();
     g_build_count_laws::laws::numbers_count_nodes();
-    cc_source_keeps::laws::programs_can_be_emitted();
+    log_judge::cc_source_keeps::laws::programs_can_be_emitted();
     g_pass_order::laws::orders_are_unique();
     g_pass_def::laws::answers_keep_lists();
-    g_pass_keeps::laws::answers_keep_lists();
+    g_pass_laws::g_pass_keeps::laws::answers_keep_lists();
     g_pass_laws::laws::answers_have_few_steps();
 }

@@ -4,6 +4,9 @@
 //! Always: an `AcceptedSource` is accepted, and its program is the one that it is accepted as.
 #![tactic(auto)]
 
+// What is passed on of the libraries below.
+pub use cc_source;
+
 mod accepted;
 mod edit;
 mod fault;

@@ -14,6 +14,7 @@ use elf_file::Image;
 use g_graph::{Omega, Optimised, main_index};
 use no_memory::NoMemory;
 use rv_layout::{Item, lay};
+use s_linear::CodeForm;
 use std::alloc::Global;
 use std::sync::Arc;
 
@@ -42,19 +43,24 @@ pub fn emit_items(alloc: Global, functions: &[Vec<Item>], omega: &Omega) -> Resu
 }
 
 /// The image of a program: the functions that these lambdas are, in the order of the source, and
-/// the globals of the program. Its file keeps the behaviour of the lambdas: on every input on which
+/// the globals of the program, in this form. Its file keeps the behaviour of the lambdas: on every input on which
 /// no bound makes them undefined it does on the machine what they do, or stops for want of stack.
 /// It takes time n log n in the values of each function, and linear in all else. `NoMemory` only
 /// where the allocator has none.
-pub fn emit(alloc: Global, answers: &[Arc<Optimised>], omega: &Omega) -> Result<Image, NoMemory>
+pub fn emit(
+    alloc: Global,
+    form: CodeForm,
+    answers: &[Arc<Optimised>],
+    omega: &Omega,
+) -> Result<Image, NoMemory>
     requires { CanEmit omega.now (lambdas_of (map arc_value answers.now)) }
     ensures image { IfOk result (λ image.
-        sections_of image ≡ image_of omega.now (lambdas_of (map arc_value answers.now))) }
+        sections_of image ≡ image_of form omega.now (lambdas_of (map arc_value answers.now))) }
     ensures placed { IfOk result (λ image. IsPlaced (sections_of image)) }
-    ensures kept { IfOk result (λ image. KeepsLambdas omega.now
+    ensures kept { IfOk result (λ image. KeepsLambdas form omega.now
         (lambdas_of (map arc_value answers.now)) (file_of (sections_of image))) }
 {
     cc_emit_keeps::laws::images_keep_meaning();
-    let functions = all_items(alloc, answers)?;
+    let functions = all_items(alloc, form, answers)?;
     emit_items(alloc, &functions, omega)
 }

@@ -18,10 +18,9 @@ use Rattle.val_core.specs.Numbers.{numbers_from}
 use Rattle.s_sequence.specs.Sequence.{values_in, value_args, kept, Names, no_names, node_names, nodes_names, named, nodes_named, name_of, moves, instrs_then, outputs_at, bases, loop_results, nodes_code, node_step, branch_codes, branch_code, loop_step, body_code, sequenced}
 use Rattle.s_sequence.proofs.lemmas.Instrs.{arguments_counted}
 use Rattle.s_sequence.proofs.lemmas.Named.{args_length, kept_length}
-use Rattle.a_place.specs.Places.{places}
 use Rattle.rv_layout.specs.Items.{item_size, items_size}
 use Rattle.s_select.specs.Templates.{line_items, items_of}
-use Rattle.cc_emit_def.specs.Image.{lines_of}
+use Rattle.cc_emit_def.specs.Image.{lines_of, places_of}
 use Rattle.cc_emit_def.specs.Laws.{HasFewArguments, CodeIsShort}
 use Rattle.cc_emit_def.specs.Sizes.{instr_bytes, line_bytes, LinesAreShort}
 use Rattle.cc_emit_def.proofs.Bytes.{bytes, instrs_bytes, step_bytes, code_bytes, codes_bytes, code_lines_bytes}
@@ -152,12 +151,12 @@ items_bytes short p os (l ∷ ls) =
     )
 
 pub code_is_short : LinesAreShort → CodeIsShort
-code_is_short short l params calls =
+code_is_short short form l params calls =
     let code = code_lines 0 (sequenced l).code in
     let start = enter (numbers_from 0 l.params) in
     omega (
       arith,
-      items_bytes short (places (lines_of l)) l.objects (lines_of l),
+      items_bytes short (places_of form l) l.objects (lines_of l),
       sum_by-append line_bytes (start ∷ code) (leave (sequenced l).value ∷ []),
       sum_by-cons line_bytes start code,
       length_numbers 0 l.params,

@@ -10,6 +10,7 @@ use Rattle.g_graph.specs.Plain.{region, node, no_nodes, node_then, no_regions, P
 use Rattle.g_graph.specs.Program.{main_name}
 use Rattle.rv_layout.specs.Sequences.{bytes_of}
 use Rattle.rv_layout.specs.Layout.{addresses_of, text_of}
+use Rattle.s_linear.specs.declared.frame.CodeForm.TheVariants.{Plain}
 use Rattle.cc_emit_def.specs.Image.{file_of_program, frame_of, function_items}
 
 abbrev answer : PlainLambda
@@ -24,12 +25,12 @@ answer = record {
 abbrev program : PlainOmega
 program = record { lambdas = answer ∷ []; deltas = []; names = main_name ∷ [] }
 
-answer-frame : frame_of answer ≡ 16
+answer-frame : frame_of Plain answer ≡ 16
 answer-frame = refl
 
 -- the words after the start code and the stubs
 answer-words :
-    drop 29 (map word_of (text_of (addresses_of (function_items answer ∷ []) []) (function_items answer ∷ []) 0))
+    drop 29 (map word_of (text_of (addresses_of (function_items Plain answer ∷ []) []) (function_items Plain answer ∷ []) 0))
     ≡ 0x01000293 ∷ 0x40810333 ∷ 0x00537463 ∷ 0x00100073 ∷ 0x40510133 ∷ 0x00510333 ∷ 0xfe132e23 ∷ 0xfe932c23
     ∷ 0x02a00493
     ∷ 0x00048513 ∷ 0x01000293 ∷ 0x00510333 ∷ 0xff832483 ∷ 0xffc32083 ∷ 0x00030113 ∷ 0x00008067
@@ -37,6 +38,6 @@ answer-words :
 unfolding word_of
 answer-words = refl
 
-answer-file : length (file_of_program program (answer ∷ [])) ≡ 8200
+answer-file : length (file_of_program Plain program (answer ∷ [])) ≡ 8200
 unfolding file_of headers elf_header program_header bytes_of
 answer-file = refl

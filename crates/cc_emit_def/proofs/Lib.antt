@@ -1,3 +1,4 @@
+mod Below
 mod Bytes
 mod CodeSize
 mod Examples
@@ -5,5 +6,6 @@ mod Globals
 mod Placed
 mod Programs
 mod Selects
+mod Shared
 mod Short
 pub mod lemmas

@@ -9,12 +9,13 @@ use Rattle.cc_emit_def.specs.Laws.{TextIsShort, ImageIsPlaced, ProgramLoads, Fun
 use Rattle.cc_emit_def.proofs.lemmas.FunctionFits.{text_sum, memory_end}
 
 pub text_is_short : TextIsShort
-text_is_short program ls can =
-    let functions = map function_items ls in
-    omega (arith, length-text (addresses_of functions program.deltas) functions (main_of program), text_sum program ls can)
+text_is_short form program ls can =
+    let functions = map (function_items form) ls in
+    omega (arith, length-text (addresses_of functions program.deltas) functions (main_of program), text_sum program ls can form)
 
 pub image_is_placed : FunctionsFit → LaidIsPlaced → ImageIsPlaced
-image_is_placed fit placed program ls can = placed (map function_items ls) program.deltas (main_of program) (fit program ls can) (memory_end program ls can)
+image_is_placed fit placed form program ls can =
+    placed (map (function_items form) ls) program.deltas (main_of program) (fit form program ls can) (memory_end program ls can form)
 
 pub program_loads : ImageIsPlaced → WrittenLoads → ProgramLoads
-program_loads placed loads program ls can = loads (image_of program ls) (placed program ls can)
+program_loads placed loads form program ls can = loads (image_of form program ls) (placed form program ls can)

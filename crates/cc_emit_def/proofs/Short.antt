@@ -1,5 +1,5 @@
 -- The bytes of templates, with far words everywhere.
-use Rattle.std.proofs.Common.{◌≡◌, ℕ, zero, suc, ◌+◌, ◌*◌, ◌/◌, ◌%◌, ◌^◌, ◌≤◌, refl, Bool, true, false, List, [], ◌∷◌, ◌++◌, if◌then◌else◌, length, arith}
+use Rattle.std.proofs.Common.{◌≡◌, ℕ, zero, suc, ◌+◌, ◌*◌, ◌/◌, ◌%◌, ◌^◌, ◌≤◌, ◌==◌, refl, Bool, true, false, List, [], ◌∷◌, ◌++◌, if◌then◌else◌, length, slice_index, arith}
 use Rattle.std.proofs.lemmas.List.{length-append}
 use Rattle.std.proofs.lemmas.List.Sums.{sum_by-cons, sum_by-append}
 use Rattle.std.specs.Prelude.{nat_lt}
@@ -21,7 +21,7 @@ use Rattle.rv_layout.specs.declared.item.Item.TheVariants.{Word, Jump, Call, Stu
 use Rattle.rv_layout.specs.Items.{item_size, items_size}
 use Rattle.s_select.specs.declared.location.Location.{Location}
 use Rattle.s_select.specs.declared.location.Location.TheVariants.{Register, Near, Far}
-use Rattle.s_select.specs.Operands.{negative, place_register, load_immediate, get, put, in_of, load_in, out_of, store_out}
+use Rattle.s_select.specs.Operands.{negative, place_register, location_of, load_immediate, get, put, in_of, load_in, out_of, store_out}
 use Rattle.s_select.specs.Templates as t
 use Rattle.s_select.specs.Templates.{words, place_of}
 use Rattle.cc_emit_def.specs.Sizes.{instr_bytes, LinesAreShort}
@@ -111,6 +111,13 @@ move_short (Register r) from = omega (arith, got r from)
 move_short (Near o) from = both (load_in t0 from) (put (Near o) (in_of from t0)) 3 3 (loaded t0 from) (stored (Near o) (in_of from t0))
 move_short (Far o) from = both (load_in t0 from) (put (Far o) (in_of from t0)) 3 3 (loaded t0 from) (stored (Far o) (in_of from t0))
 
+moves_short : (n p q : ℕ) → length (t.move_between n p q) ≤ 6
+moves_short n p q =
+    elim (p == q) as (λ b. length (if b then [] else t.move_code (location_of n p) (location_of n q)) ≤ 6) [
+      | true ↦ omega arith
+      | false ↦ move_short (location_of n p) (location_of n q)
+    ]
+
 arguments_short : (p : PlainPlaces) (r : ℕ) (xs : List ℕ) → length (t.get_arguments p r xs) ≤ 3 * length xs
 arguments_short p r [] = omega arith
 arguments_short p r (x ∷ xs) =
@@ -186,7 +193,8 @@ instr_short p os (linear.clear n) = words_short (t.clear_code (object_at p.count
 instr_short p os (linear.equal_pointers x a b) =
     words_short (t.with_two (place_of p x) (place_of p a) (place_of p b) (t.binary_code op.Eq)) 11
     (two_short (place_of p x) (place_of p a) (place_of p b) (t.binary_code op.Eq) (binary_short op.Eq))
-instr_short p os (linear.move x a) = words_short (t.move_code (place_of p x) (place_of p a)) 6 (move_short (place_of p x) (place_of p a))
+instr_short p os (linear.move x a) =
+    words_short (t.move_between p.temporaries (slice_index p.of x) (slice_index p.of a)) 6 (moves_short p.temporaries (slice_index p.of x) (slice_index p.of a))
 instr_short p os (linear.call f x xs) =
     omega (
       arith,

@@ -8,17 +8,18 @@ use Rattle.g_graph.specs.Lists.{RegionOps}
 use Rattle.g_graph.specs.Plain.{PlainDelta, PlainLambda, PlainOmega}
 use Rattle.g_graph.specs.Program.{IsGlobal, lambda_values, IsFunctionWithinLimits}
 use Rattle.g_graph.specs.WellFormed.{all_of, IsWellFormed}
-use Rattle.s_linear.specs.Lines.{Line}
+use Rattle.s_linear.specs.Linear.{LinearFunction}
+use Rattle.s_linear.specs.Lines.{lines}
+use Rattle.s_linear.specs.declared.frame.CodeForm.{CodeForm}
 use Rattle.s_linear.specs.declared.frame.Frame.{Frame}
 use Rattle.s_sequence.specs.Laws.{Applies}
-use Rattle.a_place.specs.Places.{places}
 use Rattle.rv_layout.specs.Conditions.{global_fits, CanLayOut}
 use Rattle.s_select.specs.Conditions.{CanSelect, IsFrameOf, names_have_places}
-use Rattle.cc_emit_def.specs.Image.{lines_of, function_items, code_size, main_of, image_of, file_of_program, CanEmit}
+use Rattle.cc_emit_def.specs.Image.{lines_of, places_in, places_of, function_items, code_size, main_of, image_of, file_of_program, CanEmit}
 
--- Each name of the lines has a place below their count.
+-- Each name of the lines of a function has a place.
 abbrev pub NamesHavePlaces : Type 0
-NamesHavePlaces = (ls : List Line) → IsTrue (all_of (names_have_places (places ls)) ls)
+NamesHavePlaces = (form : CodeForm) (f : LinearFunction) → IsTrue (all_of (names_have_places (places_in form f)) (lines f))
 
 -- an Apply has at most 8 inputs without its states
 abbrev pub HasFewArguments : Op → (count : ℕ) → Type 0
@@ -35,8 +36,8 @@ pub record IsFunction (l : PlainLambda) : Type 0 where
 -- of its calls at most 8 arguments.
 abbrev pub LambdaCanSelect : Type 0
 LambdaCanSelect =
-    (l : PlainLambda) (frame : Frame) → IsWellFormed l → l.params ≤ 8 → RegionOps HasFewArguments l.body
-    → IsFrameOf frame (places (lines_of l)) l.objects → CanSelect (lines_of l) (places (lines_of l)) frame l.objects
+    (form : CodeForm) (l : PlainLambda) (frame : Frame) → IsWellFormed l → l.params ≤ 8 → RegionOps HasFewArguments l.body
+    → IsFrameOf frame (places_of form l) l.objects → CanSelect (lines_of l) (places_of form l) frame l.objects
 
 -- The code of a lambda has at most 32 bytes for each value and 256 more, where it has at most 8 parameters and each of its
 -- calls at most 8 arguments. The first and the last line take 252 with far words. A node that is no call takes at most 44, of
@@ -44,7 +45,7 @@ LambdaCanSelect =
 -- are the 32 of its one value; a loop a branch of 20 and a jump, of 96. A move takes 24: an argument or a result has one, and
 -- the values that a loop passes on have three, of 96.
 abbrev pub CodeIsShort : Type 0
-CodeIsShort = (l : PlainLambda) → l.params ≤ 8 → RegionOps HasFewArguments l.body → code_size l ≤ 32 * lambda_values l + 256
+CodeIsShort = (form : CodeForm) (l : PlainLambda) → l.params ≤ 8 → RegionOps HasFewArguments l.body → code_size form l ≤ 32 * lambda_values l + 256
 
 -- A global of a program can be laid out.
 abbrev pub GlobalsFit : Type 0
@@ -54,16 +55,19 @@ GlobalsFit = (globals : ℕ) (d : PlainDelta) → IsGlobal globals d → IsTrue 
 
 -- The functions of a program can be laid out with its globals, and each jump reaches.
 abbrev pub FunctionsFit : Type 0
-FunctionsFit = (omega : PlainOmega) (ls : List PlainLambda) → CanEmit omega ls → CanLayOut (map function_items ls) omega.deltas (main_of omega)
+FunctionsFit =
+    (form : CodeForm) (omega : PlainOmega) (ls : List PlainLambda) → CanEmit omega ls → CanLayOut (map (function_items form) ls) omega.deltas (main_of omega)
 
 -- The text of a program has less than 148,000,000 bytes.
 abbrev pub TextIsShort : Type 0
-TextIsShort = (omega : PlainOmega) (ls : List PlainLambda) → CanEmit omega ls → length (image_of omega ls).text < 148000000
+TextIsShort = (form : CodeForm) (omega : PlainOmega) (ls : List PlainLambda) → CanEmit omega ls → length (image_of form omega ls).text < 148000000
 
 -- The sections of a program stand where a file wants them.
 abbrev pub ImageIsPlaced : Type 0
-ImageIsPlaced = (omega : PlainOmega) (ls : List PlainLambda) → CanEmit omega ls → IsPlaced (image_of omega ls)
+ImageIsPlaced = (form : CodeForm) (omega : PlainOmega) (ls : List PlainLambda) → CanEmit omega ls → IsPlaced (image_of form omega ls)
 
 -- The file of a program loads as its sections.
 abbrev pub ProgramLoads : Type 0
-ProgramLoads = (omega : PlainOmega) (ls : List PlainLambda) → CanEmit omega ls → loaded (file_of_program omega ls) ≡ Ok (executable_for (image_of omega ls))
+ProgramLoads =
+    (form : CodeForm) (omega : PlainOmega) (ls : List PlainLambda) → CanEmit omega ls
+    → loaded (file_of_program form omega ls) ≡ Ok (executable_for (image_of form omega ls))

@@ -3,14 +3,15 @@
 ghost use Rattle.cc_emit_def.specs.Laws.{CodeIsShort, FunctionsFit, GlobalsFit, ImageIsPlaced, LambdaCanSelect, NamesHavePlaces, ProgramLoads, TextIsShort};
 ghost use Rattle.cc_emit_def.specs.Sizes.{LinesAreShort};
 
-/// Each name of the lines has a place below their count.
+/// Each name of the lines of a function has a place.
 pub fn names_have_places()
     ensures { NamesHavePlaces }
 {
     a_place::laws::places_are_below_count();
+    a_share_def::laws::shared_places_are_counted();
 }
 
-/// Items can be selected for the lines of a well-formed lambda at their places, where it has at
+/// Items can be selected for the lines of a well-formed lambda at their places in a form, where it has at
 /// most 8 parameters and each of its calls at most 8 arguments.
 pub fn lambda_can_select()
     ensures { LambdaCanSelect }

@@ -12,34 +12,50 @@ use Rattle.g_graph.specs.Plain.{PlainLambda, PlainOmega}
 use Rattle.g_mean.specs.Data.{Datum}
 use Rattle.g_mean.specs.Calls.{global_of, first_memory, program_at, deepest_main}
 use Rattle.g_mean.specs.LessDefined.{AreBytes}
+use Rattle.g_mean.specs.Kinds.{AreWellFormed}
 use Rattle.g_mean.proofs.lemmas.Kinds.{all-well-formed}
 use Rattle.rv_machine.specs.Run.{run, executed, start}
 use Rattle.rv_layout.specs.declared.item.Item.{Item}
 use Rattle.rv_layout.specs.Layout.{laid_out}
+use Rattle.val_core.specs.Memory.{Memory}
 use Rattle.s_linear.specs.Meaning.{calls, finished}
+use Rattle.s_linear.specs.declared.frame.CodeForm.{CodeForm}
+use Rattle.s_linear.specs.declared.frame.CodeForm.TheVariants.{Plain, Tight}
 use Rattle.s_sequence.specs.Sequence.{sequenced}
 use Rattle.s_sequence_keeps.specs.Agreement.{GivesBack}
 use Rattle.s_sequence_keeps.specs.Laws.{ProgramsAreWithin}
 use Rattle.s_sequence_keeps.specs.Programs.{started, linear_program_at}
-use Rattle.a_place_keeps.specs.Laws.{SequencedFunctionsAgree}
+use Rattle.a_place.specs.Placed.{placed_at, placed_calls}
+use Rattle.a_place_keeps.specs.Laws.{SequencedFunctionsAgree, SequencedSharedAgree}
 use Rattle.s_select_keeps.specs.Functions.{ProgramCanRun, frame_sizes}
 use Rattle.s_select_keeps.specs.LaidFunctions.{function_items}
 use Rattle.s_select_keeps.specs.Kept.{ProgramIsKept}
 use Rattle.s_select_keeps.specs.Kept as placed
 use Rattle.s_select_keeps.specs.Mains.{HasStart}
 use Rattle.s_select_keeps.specs.Relation.{Bases}
-use Rattle.cc_emit_def.specs.Image.{main_of, image_of, file_of_program, CanEmit}
+use Rattle.cc_emit_def.specs.Image.{places_in, main_of, image_of, file_of_program, CanEmit}
 use Rattle.cc_emit_def.specs.Image as image
 use Rattle.rv_behaviour_def.specs.Behaviour.{IsKept, FileKeeps}
 use Rattle.rv_behaviour_def.proofs.lemmas.Nearer.{undefined_is_apart, nearer_is_kept}
 use Rattle.cc_emit_keeps.specs.Images.{frames, linear, program_of}
 
 -- the items of the functions are those of the lambdas
-pub items-same : (ls : List PlainLambda) → map function_items (linear ls) ≡ map image.function_items ls
-items-same ls = map-map function_items sequenced ls
+pub items-same : (form : CodeForm) (ls : List PlainLambda) → map (function_items (places_in form)) (linear ls) ≡ map (image.function_items form) ls
+items-same form ls = map-map (function_items (places_in form)) sequenced ls
 
-sizes-same : (ls : List PlainLambda) (k : ℕ) → frame_sizes (linear ls) k ≡ slice_index_or (frames ls) k 0
-sizes-same ls k = ap (λ (xs : List ℕ). slice_index_or xs k 0) (map-map _ sequenced ls)
+sizes-same : (form : CodeForm) (omega : PlainOmega) (ls : List PlainLambda) (k : ℕ) → frame_sizes (program_of form omega ls) k ≡ slice_index_or (frames form ls) k 0
+sizes-same form omega ls k = ap (λ (xs : List ℕ). slice_index_or xs k 0) (map-map _ sequenced ls)
+
+-- the linear code of well-formed lambdas does over its places, in each form, what it does over names
+abbrev pub FormsAgree : Type 0
+FormsAgree =
+    (form : CodeForm) (ls : List PlainLambda) → AreWellFormed ls → (global : ℕ → Value) (bound f : ℕ) (arguments : List Value) (memory : Memory) (input : List ℕ)
+    → calls (linear ls) global bound f arguments memory input
+    ≡ placed_calls (map (λ g. placed_at (places_in form g) g) (linear ls)) global bound f arguments memory input
+
+pub forms_agree : SequencedFunctionsAgree → SequencedSharedAgree → FormsAgree
+forms_agree plain tight Plain = plain
+forms_agree plain tight Tight = tight
 
 pub bytes-all : (i : List ℕ) → AreBytes i → All (λ byte. byte < 2 ^ 8) i
 bytes-all [] h = λ k d below. omega (arith, below)
@@ -58,35 +74,35 @@ nothing-within R (Cut o) right = (output o, refl)
 nothing-within R (Exited o s) right = (output o, refl)
 nothing-within R (Undefined o) right = absurd (right tt)
 
-module _ (kept : ProgramIsKept) (agree : SequencedFunctionsAgree) (within : ProgramsAreWithin) (omega : PlainOmega) (ls : List PlainLambda) (can : CanEmit omega ls)
-    (loads : loaded (file_of_program omega ls) ≡ Ok (executable_for (image_of omega ls))) (can-run : ProgramCanRun (program_of omega ls)) (stack e : ℕ)
+module _ (kept : ProgramIsKept) (agree : FormsAgree) (within : ProgramsAreWithin) (form : CodeForm) (omega : PlainOmega) (ls : List PlainLambda) (can : CanEmit omega ls)
+    (loads : loaded (file_of_program form omega ls) ≡ Ok (executable_for (image_of form omega ls))) (can-run : ProgramCanRun (program_of form omega ls)) (stack e : ℕ)
     (bases : Bases) (i : List ℕ)
-    (begins : HasStart (program_of omega ls) (main_of omega) stack e (first_memory omega.deltas) bases i
-    (start (executable_for (laid_out (map function_items (linear ls)) omega.deltas (main_of omega)))))
+    (begins : HasStart (program_of form omega ls) (main_of omega) stack e (first_memory omega.deltas) bases i
+    (start (executable_for (laid_out (map (function_items (places_in form)) (linear ls)) omega.deltas (main_of omega)))))
     (right : (n : ℕ) → IsUndefined (program_at n omega ls i) → ⊥) where
   -- what the program over places does within a bound
-  abbrev placed_at : ℕ → Answer (Given Value)
-  placed_at n = placed.program_at (program_of omega ls) (main_of omega) (first_memory omega.deltas) i n
+  abbrev over_places : ℕ → Answer (Given Value)
+  over_places n = placed.program_at (program_of form omega ls) (main_of omega) (first_memory omega.deltas) i n
 
   abbrev deeper : ℕ → ℕ
-  deeper n = deepest (frame_sizes (linear ls)) (events (placed_at n))
+  deeper n = deepest (frame_sizes (program_of form omega ls)) (events (over_places n))
 
   -- the linear code at a bound is the program over places at the next one
-  linear-is : (n : ℕ) → linear_program_at n omega (linear ls) i ≡ placed_at (suc n)
+  linear-is : (n : ℕ) → linear_program_at n omega (linear ls) i ≡ over_places (suc n)
   linear-is n =
       let main = can.program.main in
       let number : main_of omega ≡ main.index = ap (λ (x : Option ℕ). unwrap_or x 0) main.named in
       ap (λ (x : Option ℕ). started n omega (linear ls) x i) main.named
       ∙ ap (λ f. then_on (calls (linear ls) (global_of omega.deltas) (suc n) f [] (first_memory omega.deltas) i) finished) (sym number)
       ∙ ap (λ a. then_on a finished)
-      (agree ls (all-well-formed ls can.program.complete.well_formed) (global_of omega.deltas) (suc n) (main_of omega) [] (first_memory omega.deltas) i)
+      (agree form ls (all-well-formed ls can.program.complete.well_formed) (global_of omega.deltas) (suc n) (main_of omega) [] (first_memory omega.deltas) i)
 
-  forward : (n : ℕ) → Within GivesBack (behaviour (program_at n omega ls i)) (behaviour (placed_at (suc n)))
+  forward : (n : ℕ) → Within GivesBack (behaviour (program_at n omega ls i)) (behaviour (over_places (suc n)))
   forward n =
       subst (λ a. Within GivesBack (behaviour (program_at n omega ls i)) (behaviour a)) (linear-is n)
       (within ls (all-well-formed ls can.program.complete.well_formed) omega n i (right n)).forward
 
-  back : (n : ℕ) → (m : ℕ) × Within (λ g ys. GivesBack ys g) (behaviour (placed_at n)) (behaviour (program_at m omega ls i))
+  back : (n : ℕ) → (m : ℕ) × Within (λ g ys. GivesBack ys g) (behaviour (over_places n)) (behaviour (program_at m omega ls i))
   back zero = (0, nothing-within (λ g ys. GivesBack ys g) (program_at 0 omega ls i) (right 0))
   back (suc n) = (
     n,
@@ -94,34 +110,34 @@ module _ (kept : ProgramIsKept) (agree : SequencedFunctionsAgree) (within : Prog
         (within ls (all-well-formed ls can.program.complete.well_formed) omega n i (right n)).back,
   )
 
-  same-depth : (n : ℕ) → deeper (suc n) ≡ deepest_main n omega ls (frames ls) i
+  same-depth : (n : ℕ) → deeper (suc n) ≡ deepest_main n omega ls (frames form ls) i
   same-depth n =
-      ap (λ sizes. deepest sizes (events (placed_at (suc n)))) (λ j k. sizes-same ls k j)
-      ∙ ap (λ a. deepest (λ f. slice_index_or (frames ls) f 0) (events a)) (sym (linear-is n))
-      ∙ (within ls (all-well-formed ls can.program.complete.well_formed) omega n i (right n)).same_depth (λ f. slice_index_or (frames ls) f 0)
+      ap (λ sizes. deepest sizes (events (over_places (suc n)))) (λ j k. sizes-same form omega ls k j)
+      ∙ ap (λ a. deepest (λ f. slice_index_or (frames form ls) f 0) (events a)) (sym (linear-is n))
+      ∙ (within ls (all-well-formed ls can.program.complete.well_formed) omega n i (right n)).same_depth (λ f. slice_index_or (frames form ls) f 0)
 
-  no_deeper : (n : ℕ) → (m : ℕ) × (deeper n ≤ deepest_main m omega ls (frames ls) i)
+  no_deeper : (n : ℕ) → (m : ℕ) × (deeper n ≤ deepest_main m omega ls (frames form ls) i)
   no_deeper zero = (0, at-least-none _)
   no_deeper (suc n) = (n, at-most _ _ (same-depth n))
 
-  placed-right : (n : ℕ) → IsUndefined (placed_at n) → ⊥
-  placed-right n wrong = let m = back n in undefined_is_apart (λ g ys. GivesBack ys g) (placed_at n) (program_at m.0 omega ls i) wrong m.1
+  placed-right : (n : ℕ) → IsUndefined (over_places n) → ⊥
+  placed-right n wrong = let m = back n in undefined_is_apart (λ g ys. GivesBack ys g) (over_places n) (program_at m.0 omega ls i) wrong m.1
 
-  placed-kept : FileKeeps (Given Value) placed_at deeper (file_of_program omega ls) i
+  placed-kept : FileKeeps (Given Value) over_places deeper (file_of_program form omega ls) i
   unfolding executed run
   placed-kept =
       record {
-        executable = executable_for (image_of omega ls);
+        executable = executable_for (image_of form omega ls);
         loads = loads;
         runs =
-            subst (λ (items : List (List Item)). IsKept (Given Value) placed_at deeper (λ n. executed n (executable_for (laid_out items omega.deltas (main_of omega))) i))
-            (items-same ls)
-            (kept (program_of omega ls) (main_of omega) stack e (first_memory omega.deltas) bases i
-            (start (executable_for (laid_out (map function_items (linear ls)) omega.deltas (main_of omega)))) can-run begins placed-right);
+            subst (λ (items : List (List Item)). IsKept (Given Value) over_places deeper (λ n. executed n (executable_for (laid_out items omega.deltas (main_of omega))) i))
+            (items-same form ls)
+            (kept (program_of form omega ls) (main_of omega) stack e (first_memory omega.deltas) bases i
+            (start (executable_for (laid_out (map (function_items (places_in form)) (linear ls)) omega.deltas (main_of omega)))) can-run begins placed-right);
       }
 
-  pub image_keeps : FileKeeps (List Datum) (λ n. program_at n omega ls i) (λ n. deepest_main n omega ls (frames ls) i) (file_of_program omega ls) i
+  pub image_keeps : FileKeeps (List Datum) (λ n. program_at n omega ls i) (λ n. deepest_main n omega ls (frames form ls) i) (file_of_program form omega ls) i
   image_keeps =
-      nearer_is_kept (List Datum) (Given Value) GivesBack (λ n. program_at n omega ls i) placed_at (λ n. deepest_main n omega ls (frames ls) i) deeper
-      (file_of_program omega ls) i
+      nearer_is_kept (List Datum) (Given Value) GivesBack (λ n. program_at n omega ls i) over_places (λ n. deepest_main n omega ls (frames form ls) i) deeper
+      (file_of_program form omega ls) i
       (record { forward = λ n. (suc n, forward n); back = back; no_deeper = no_deeper }) placed-kept

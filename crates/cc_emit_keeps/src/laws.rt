@@ -3,7 +3,7 @@
 
 ghost use Rattle.cc_emit_keeps.specs.Images.{ImagesKeepMeaning};
 
-/// The image of every program within the limits does on the machine what its lambdas do, on every
+/// The image of every program within the limits, in each form of code, does on the machine what its lambdas do, on every
 /// input of bytes on which no bound makes them undefined: it loads, and does so bounded run for
 /// bounded run both ways, or stops for want of stack after a beginning of their output, where the
 /// frames of some stack of calls need more than the stack has.
@@ -12,6 +12,7 @@ pub fn images_keep_meaning()
 {
     s_select_keeps::laws::programs_are_kept();
     a_place_keeps::laws::sequenced_functions_agree();
+    a_place_keeps::laws::sequenced_shared_agree();
     s_sequence_keeps::laws::runs_are_within_each_other();
     cc_emit_def::laws::program_loads();
     cc_emit_def::laws::image_is_placed();

@@ -3,4 +3,7 @@
 //! no memory.
 #![tactic(auto)]
 
+// What is passed on of the libraries below.
+pub use a_place_keeps;
+
 pub mod laws;

@@ -15,12 +15,13 @@ use Rattle.rv_layout.specs.Sequences.{bytes_of}
 use Rattle.rv_machine.specs.Machine.{exit, act, give, jump, call, fetched, next_effect}
 use Rattle.rv_machine.specs.Memory.{load_bytes, store_bytes, allowed, memory_of, flags_of}
 use Rattle.rv_machine.specs.Run.{RunResult, run_state, run, executed, ended}
+use Rattle.s_linear.specs.declared.frame.CodeForm.TheVariants.{Plain}
 use Rattle.cc_emit_def.specs.Image.{image_of, file_of_program}
 use Rattle.cc_emit_tests.proofs.Programs.{table_main, table, pointer_main, pointer, echo_main, echo, parity_lambdas, parity, narrow_main, narrow, cleared_main, cleared}
 
 -- so many instructions of the image of a program
 abbrev runs : (count : ℕ) → PlainOmega → List PlainLambda → (input : List ℕ) → RunResult
-runs count program ls input = executed count (executable_for (image_of program ls)) input
+runs count program ls input = executed count (executable_for (image_of Plain program ls)) input
 
 abbrev exits : (status : ℕ) → (output : List ℕ) → RunResult
 exits status output = record { hart = ended (exit status); output = output; rest = [] }
@@ -32,11 +33,11 @@ exit_of (Returned results did) = None
 exit_of (Cut did) = None
 exit_of (Undefined did) = None
 
-table-file : length (file_of_program table (table_main ∷ [])) ≡ 12296
+table-file : length (file_of_program Plain table (table_main ∷ [])) ≡ 12296
 unfolding file_of headers elf_header program_header bytes_of
 table-file = refl
 
-table-headers : length (program_headers (image_of table (table_main ∷ []))) ≡ 3
+table-headers : length (program_headers (image_of Plain table (table_main ∷ []))) ≡ 3
 unfolding bytes_of
 table-headers = refl
 

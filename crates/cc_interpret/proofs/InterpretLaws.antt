@@ -7,7 +7,7 @@ use Rattle.c_mean.specs.Run as run
 use Rattle.c_mean.specs.Run.{heard}
 use Rattle.c_interp.specs.Interpreted.{IsLeft, IsHeard, IsSomeRun}
 use Rattle.cc_outside.specs.Outside.{ReadFails, Outside}
-use Rattle.cc_source.specs.Accepted.{Accepts, OneProgram}
+use Rattle.cc_refusal.specs.cc_source.Accepted.{Accepts, OneProgram}
 use Rattle.cc_refusal.specs.Refused.{AcceptedIsNotRefused}
 use Rattle.cc_report.specs.declared.outcome.Outcome.{Outcome}
 use Rattle.cc_report.specs.declared.outcome.Outcome.TheVariants.{ReadFault, WriteFault, Refused, NoMemory, Exit, Undefined, Cut}

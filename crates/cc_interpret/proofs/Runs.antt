@@ -11,7 +11,7 @@ use Rattle.c_interp.specs.declared.stop.Ending.{Ending}
 use Rattle.c_interp.specs.declared.stop.Ending.TheVariants.{Exit, Cut, Undefined, ReadFault, WriteFault}
 use Rattle.c_interp.specs.Interpreted.{IsSomeRun, IsPart, HasEnded}
 use Rattle.cc_outside.specs.Outside.{ReadFails, StreamSeen, Outside, KeepsStreams}
-use Rattle.cc_source.specs.Accepted.{Accepts}
+use Rattle.cc_refusal.specs.cc_source.Accepted.{Accepts}
 use Rattle.cc_refusal.specs.Refused.{CompileFails}
 use Rattle.cc_refusal.proofs.lemmas.Sources.{whole_text}
 use Rattle.cc_report.specs.declared.outcome.Outcome.{Outcome}

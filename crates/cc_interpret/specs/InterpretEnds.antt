@@ -8,7 +8,7 @@ use Rattle.c_mean.specs.Run as run
 use Rattle.c_mean.specs.Run.{Heard, heard}
 use Rattle.c_interp.specs.Interpreted.{Streams, IsHeard, IsSomeRun, IsPart}
 use Rattle.cc_outside.specs.Outside.{Unchanged, ReadFails, StreamSeen, Outside, KeepsStreams, IfKnown}
-use Rattle.cc_source.specs.Accepted.{Accepts}
+use Rattle.cc_refusal.specs.cc_source.Accepted.{Accepts}
 use Rattle.cc_refusal.specs.Refused.{IsRefused}
 use Rattle.cc_report.specs.declared.outcome.Outcome.{Outcome}
 use Rattle.cc_report.specs.declared.outcome.Outcome.TheVariants.{ReadFault, WriteFault, Refused, NoMemory, Exit, Undefined, Cut}

@@ -1,2 +1,5 @@
 pub mod RunOutcomes
 pub mod InterpretEnds
+-- What is passed on of the libraries below.
+pub use Rattle.cc_refusal.specs as cc_refusal
+pub use Rattle.cc_refusal.specs.cc_source

@@ -8,5 +8,5 @@ pub fn accepted_are_run()
     ensures { AcceptedAreRun }
 {
     cc_refusal::laws::accepted_sources_are_not_refused();
-    cc_source::laws::the_program_is_determined();
+    cc_refusal::cc_source::laws::the_program_is_determined();
 }

@@ -4,6 +4,9 @@
 //! Always: a source is refused exactly as by `build`, before anything is read of the input.
 #![tactic(auto)]
 
+// What is passed on of the libraries below.
+pub use cc_refusal;
+
 mod command;
 pub mod laws;
 

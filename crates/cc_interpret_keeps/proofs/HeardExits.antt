@@ -86,7 +86,7 @@ exits_are_defined more p n i status exits = is_defined more p n i status exits
 
 module _ (agrees : HeardIsRun) (undefined : HeardIsUndefined) (more : HeardExtends) where
   pub kept_files_exit : KeptFilesExit
-  kept_files_exit p ls bytes keeps n i are_bytes status exits =
+  kept_files_exit form p ls bytes keeps n i are_bytes status exits =
       let defined = is_defined more p n i status exits in
       let kept = keeps i are_bytes (λ m u. defined m ((undefined m p i).0 u)) in
       elim (kept.runs.forward n) [

@@ -6,12 +6,13 @@ use Rattle.c_mean.specs.Run as source
 use Rattle.c_mean.specs.Run.{heard}
 use Rattle.g_graph.specs.declared.steps.Rule.{Rule}
 use Rattle.g_graph.specs.Plain.{PlainLambda}
+use Rattle.s_linear.specs.declared.frame.CodeForm.{CodeForm}
 use Rattle.g_mean.specs.LessDefined.{AreBytes}
 use Rattle.rv_machine.specs.Machine.{exit, stack}
 use Rattle.rv_machine.specs.Run.{RunResult, ended, image_at}
 use Rattle.cc_source_laws.specs.SourceLaws as laws
-use Rattle.cc_source.specs.Accepted.{Accepts}
-use Rattle.cc_source_keeps.specs.Meaning.{KeepsMeaning}
+use Rattle.cc_compile.specs.cc_source.Accepted.{Accepts}
+use Rattle.cc_compile.specs.cc_source_keeps.Meaning.{KeepsMeaning}
 use Rattle.cc_compile.specs.Compiled.{IsImageUnder}
 
 -- No bound makes the run of the program on this input undefined.
@@ -33,13 +34,13 @@ ExitsAreDefined = (p : ProgramTree) (n : ℕ) (i : List ℕ) (status : ℕ) → 
 -- A file that keeps the meaning of the program then exits so, whoever made it,
 abbrev pub KeptFilesExit : Type 0
 KeptFilesExit =
-    (p : ProgramTree) (ls : List PlainLambda) (bytes : List ℕ) → KeepsMeaning p ls bytes →
+    (form : CodeForm) (p : ProgramTree) (ls : List PlainLambda) (bytes : List ℕ) → KeepsMeaning form p ls bytes →
     (n : ℕ) (i : List ℕ) → AreBytes i → (status : ℕ) → (heard n p i).ending ≡ source.exit status →
     FileExits status (heard n p i).output bytes i
 
--- and so does the image of a source that is accepted, under every recipe.
+-- and so does the image of a source that is accepted, under every recipe in each form of code.
 abbrev pub HeardExitsAreKept : Type 0
 HeardExitsAreKept =
     (text : List ℕ) → laws.AreBytes text → (p : ProgramTree) → Accepts text p →
     (n : ℕ) (i : List ℕ) → AreBytes i → (status : ℕ) → (heard n p i).ending ≡ source.exit status →
-    IsDefined p i × ((recipe : List Rule) (bytes : List ℕ) → IsImageUnder recipe p bytes → FileExits status (heard n p i).output bytes i)
+    IsDefined p i × ((recipe : List Rule) (form : CodeForm) (bytes : List ℕ) → IsImageUnder recipe form p bytes → FileExits status (heard n p i).output bytes i)

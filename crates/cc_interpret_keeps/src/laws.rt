@@ -12,8 +12,8 @@ pub fn heard_exits_are_kept()
     ensures images { HeardExitsAreKept }
 {
     c_mean::laws::heard_is_run();
-    cc_source_keeps::laws::kept_lists_keep_meaning();
+    cc_compile::cc_source_keeps::laws::kept_lists_keep_meaning();
     cc_source_laws::laws::checked_are_well_typed();
     g_build_laws::laws::well_typed_are_built();
-    g_pass_keeps::laws::answers_keep_lists();
+    cc_compile::g_pass_keeps::laws::answers_keep_lists();
 }

@@ -8,6 +8,7 @@ use Rattle.elf_file.specs.Header.{word}
 use Rattle.g_graph.specs.Plain.{PlainObject, PlainLambda}
 use Rattle.s_linear.specs.Frame.{PlainPlaces}
 use Rattle.s_linear.specs.Lines.{Line}
+use Rattle.s_linear.specs.declared.frame.CodeForm.TheVariants.{Plain}
 use Rattle.a_place.specs.Places.{places}
 use Rattle.rv_isa.specs.Words.{word_of}
 use Rattle.rv_isa.specs.declared.instruction.Instr.{Instr}
@@ -121,20 +122,20 @@ lines_have_code a f p os i at (l ∷ ls) rest =
 -- ---- functions
 
 functions_have_code : (a : Addresses) (at : ℕ) (ls : List PlainLambda)
-    → functions_lines at ls (code_words (functions_code a at (map function_items ls))) ≡ functions_with_code a at ls
+    → functions_lines at ls (code_words (functions_code a at (map (function_items Plain) ls))) ≡ functions_with_code a at ls
 functions_have_code a at [] = refl
 functions_have_code a at (l ∷ ls) =
-    let labels = λ (k : ℕ). label_at k at (function_items l) in
-    let next = at + code_size l in
+    let labels = λ (k : ℕ). label_at k at (function_items Plain l) in
+    let next = at + code_size Plain l in
     let own = lines_from (places (lines_of l)) l.objects 0 at (lines_of l) in
-    let here = code_words (function_code a at (function_items l)) in
-    let later = code_words (functions_code a next (map function_items ls)) in
-    let whole : code_words (functions_code a at (map function_items (l ∷ ls))) ≡ here ++ later =
-    code_words-append (function_code a at (function_items l)) (functions_code a next (map function_items ls)) in
-    let others : drop (code_size l / 4) (here ++ later) ≡ later =
-    ap (λ n. drop n (here ++ later)) (count_words a labels at (function_items l)) ∙ drop-append_seam here later in
+    let here = code_words (function_code a at (function_items Plain l)) in
+    let later = code_words (functions_code a next (map (function_items Plain) ls)) in
+    let whole : code_words (functions_code a at (map (function_items Plain) (l ∷ ls))) ≡ here ++ later =
+    code_words-append (function_code a at (function_items Plain l)) (functions_code a next (map (function_items Plain) ls)) in
+    let others : drop (code_size Plain l / 4) (here ++ later) ≡ later =
+    ap (λ n. drop n (here ++ later)) (count_words a labels at (function_items Plain l)) ∙ drop-append_seam here later in
     ap (functions_lines at (l ∷ ls)) whole
-    ∙ ap (λ xs. xs ++ functions_lines next ls (drop (code_size l / 4) (here ++ later)))
+    ∙ ap (λ xs. xs ++ functions_lines next ls (drop (code_size Plain l / 4) (here ++ later)))
     (lines_have_code a labels (places (lines_of l)) l.objects 0 at (lines_of l) later)
     ∙ ap (λ ws. lines_with_code a labels (places (lines_of l)) l.objects 0 at (lines_of l) ++ functions_lines next ls ws) others
     ∙ ap (λ xs. lines_with_code a labels (places (lines_of l)) l.objects 0 at (lines_of l) ++ xs) (functions_have_code a next ls)
@@ -146,6 +147,6 @@ after_stubs a fs main = refl
 
 pub words_of_their_lines : WordsAreOfTheirLines
 words_of_their_lines program ls =
-    let fs = map function_items ls in
+    let fs = map (function_items Plain) ls in
     let a = addresses_of fs program.deltas in
     ap (functions_lines functions_at ls) (after_stubs a fs (main_of program)) ∙ functions_have_code a functions_at ls

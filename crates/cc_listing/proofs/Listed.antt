@@ -5,6 +5,7 @@ use Rattle.std.proofs.lemmas.List.Sums.{sum_by-cons}
 use Rattle.std.proofs.lemmas.Option.{slice_get-map, slice_get_read}
 use Rattle.std.specs.Prelude.{slice_get}
 use Rattle.g_graph.specs.Plain.{PlainLambda, PlainOptimised}
+use Rattle.s_linear.specs.declared.frame.CodeForm.TheVariants.{Plain}
 use Rattle.cc_emit_def.specs.Image.{code_size, function_items, lambdas_of}
 use Rattle.cc_listing.specs.Lines.{function_text, functions_text, name_at}
 use Rattle.cc_listing.proofs.Cut.{four_bytes}
@@ -22,17 +23,17 @@ module _ {X : Type 0} (read : X → PlainOptimised) (xs : List X) (i : ℕ) (a :
       ∙ ap (λ x. (read x).lambda ∷ lambdas_of (map read (drop (i + 1) xs))) (sym is)
 
   -- its words are among those that are left
-  pub own_there : (n : ℕ) → sum_by code_size (lambdas_of (map read (drop i xs))) ≤ n → code_size (read a).lambda ≤ n
+  pub own_there : (n : ℕ) → sum_by (code_size Plain) (lambdas_of (map read (drop i xs))) ≤ n → code_size Plain (read a).lambda ≤ n
   own_there n h =
-      omega (arith, ap (sum_by code_size) left_at, sum_by-cons code_size (read a).lambda (lambdas_of (map read (drop (i + 1) xs))))
+      omega (arith, ap (sum_by (code_size Plain)) left_at, sum_by-cons (code_size Plain) (read a).lambda (lambdas_of (map read (drop (i + 1) xs))))
 
-  pub left_there : (n : ℕ) → sum_by code_size (lambdas_of (map read (drop i xs))) ≤ n
-      → sum_by code_size (lambdas_of (map read (drop (i + 1) xs))) ≤ n - code_size (read a).lambda
+  pub left_there : (n : ℕ) → sum_by (code_size Plain) (lambdas_of (map read (drop i xs))) ≤ n
+      → sum_by (code_size Plain) (lambdas_of (map read (drop (i + 1) xs))) ≤ n - code_size Plain (read a).lambda
   left_there n h =
-      omega (arith, ap (sum_by code_size) left_at, sum_by-cons code_size (read a).lambda (lambdas_of (map read (drop (i + 1) xs))))
+      omega (arith, ap (sum_by (code_size Plain)) left_at, sum_by-cons (code_size Plain) (read a).lambda (lambdas_of (map read (drop (i + 1) xs))))
 
   -- one function more
-  pub listed_step : (names : List (List ℕ)) (at end : ℕ) (ws later out out' whole : List ℕ) → end ≡ at + code_size (read a).lambda
+  pub listed_step : (names : List (List ℕ)) (at end : ℕ) (ws later out out' whole : List ℕ) → end ≡ at + code_size Plain (read a).lambda
       → later ≡ drop ((end - at) / 4) ws
       → out ++ functions_text names i at (lambdas_of (map read (drop i xs))) ws ≡ whole
       → out' ≡ out ++ function_text names (name_at names i) (read a).lambda at ws
@@ -42,12 +43,12 @@ module _ {X : Type 0} (read : X → PlainOptimised) (xs : List X) (i : ℕ) (a :
       let l = (read a).lambda in
       let ls = lambdas_of (map read (drop (i + 1) xs)) in
       let own = function_text names (name_at names i) l at ws in
-      let size : (end - at) / 4 ≡ code_size l / 4 = ap (λ n. n / 4) (omega (arith, ends)) in
-      let later_is : later ≡ drop (code_size l / 4) ws = rest ∙ ap (λ n. drop n ws) size in
+      let size : (end - at) / 4 ≡ code_size Plain l / 4 = ap (λ n. n / 4) (omega (arith, ends)) in
+      let later_is : later ≡ drop (code_size Plain l / 4) ws = rest ∙ ap (λ n. drop n ws) size in
       ap (λ n. out' ++ functions_text names (i + 1) n ls later) ends
-      ∙ ap (λ xs. out' ++ functions_text names (i + 1) (at + code_size l) ls xs) later_is
-      ∙ ap (λ o. o ++ functions_text names (i + 1) (at + code_size l) ls (drop (code_size l / 4) ws)) pushed
-      ∙ append_assoc out own (functions_text names (i + 1) (at + code_size l) ls (drop (code_size l / 4) ws))
+      ∙ ap (λ xs. out' ++ functions_text names (i + 1) (at + code_size Plain l) ls xs) later_is
+      ∙ ap (λ o. o ++ functions_text names (i + 1) (at + code_size Plain l) ls (drop (code_size Plain l / 4) ws)) pushed
+      ∙ append_assoc out own (functions_text names (i + 1) (at + code_size Plain l) ls (drop (code_size Plain l / 4) ws))
       ∙ ap (λ xs. out ++ functions_text names i at xs ws) (sym left_at)
       ∙ before
 
@@ -58,5 +59,5 @@ listed_end names f at left ws out whole none before =
     sym (append-nil out) ∙ ap (λ ls. out ++ functions_text names f at ls ws) (sym none) ∙ before
 
 -- the bytes of a function are whole words
-pub four_code : (l : PlainLambda) → code_size l ≡ 4 * (code_size l / 4)
-four_code l = four_bytes (function_items l)
+pub four_code : (l : PlainLambda) → code_size Plain l ≡ 4 * (code_size Plain l / 4)
+four_code l = four_bytes (function_items Plain l)

@@ -8,6 +8,7 @@ use Rattle.std.proofs.lemmas.Nat.{le_bytes_4}
 use Rattle.std.specs.Int.{from_le_bytes, w32}
 use Rattle.elf_file.specs.Header.{word}
 use Rattle.g_graph.specs.Plain.{PlainLambda}
+use Rattle.s_linear.specs.declared.frame.CodeForm.TheVariants.{Plain}
 use Rattle.a_place.specs.Places.{places}
 use Rattle.rv_isa.specs.Words.{word_of}
 use Rattle.rv_isa.specs.declared.instruction.Instr.{Instr}
@@ -40,15 +41,15 @@ code_bytes (i ∷ is) = ap₂ (λ xs ys. xs ++ ys) (same_bytes (word_of i)) (cod
 
 -- ---- words
 
-functions_taken : (at : ℕ) (ls : List PlainLambda) (ws : List ℕ) → words_listed (functions_lines at ls ws) ≡ take (sum_by code_size ls / 4) ws
+functions_taken : (at : ℕ) (ls : List PlainLambda) (ws : List ℕ) → words_listed (functions_lines at ls ws) ≡ take (sum_by (code_size Plain) ls / 4) ws
 functions_taken at [] ws = refl
 functions_taken at (l ∷ ls) ws =
-    let n = code_size l / 4 in
-    let sum : sum_by code_size (l ∷ ls) / 4 ≡ n + sum_by code_size ls / 4 = omega (arith, sum_by-cons code_size l ls, four_code l, four_sum ls) in
+    let n = code_size Plain l / 4 in
+    let sum : sum_by (code_size Plain) (l ∷ ls) / 4 ≡ n + sum_by (code_size Plain) ls / 4 = omega (arith, sum_by-cons (code_size Plain) l ls, four_code l, four_sum ls) in
     flat_map-append (λ (x : Listed). x.words) (lines_from (places (lines_of l)) l.objects 0 at (lines_of l) ws)
-    (functions_lines (at + code_size l) ls (drop n ws))
-    ∙ ap₂ (λ xs ys. xs ++ ys) (lines_words (places (lines_of l)) l.objects 0 at (lines_of l) ws) (functions_taken (at + code_size l) ls (drop n ws))
-    ∙ sym (take-add n (sum_by code_size ls / 4) ws)
+    (functions_lines (at + code_size Plain l) ls (drop n ws))
+    ∙ ap₂ (λ xs ys. xs ++ ys) (lines_words (places (lines_of l)) l.objects 0 at (lines_of l) ws) (functions_taken (at + code_size Plain l) ls (drop n ws))
+    ∙ sym (take-add n (sum_by (code_size Plain) ls / 4) ws)
     ∙ ap (λ k. take k ws) (sym sum)
 
 -- 8, 9 and 12 words, and those after them
@@ -65,11 +66,11 @@ in_parts ws =
 
 pub words_are_the_text : WordsAreTheText
 words_are_the_text program ls can =
-    let functions = map function_items ls in
-    let text = (image_of program ls).text in
+    let functions = map (function_items Plain) ls in
+    let text = (image_of Plain program ls).text in
     let ws = words_in text in
     let rest = drop 29 ws in
-    let count : sum_by code_size ls / 4 ≡ length rest = omega (arith, words_length program ls can, length-drop 29 ws) in
+    let count : sum_by (code_size Plain) ls / 4 ≡ length rest = omega (arith, words_length program ls can, length-drop 29 ws) in
     record {
       listed =
           ap (λ xs. take 8 ws ++ take 9 (drop 8 ws) ++ take 12 (drop 17 ws) ++ xs)

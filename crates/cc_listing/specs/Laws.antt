@@ -5,6 +5,7 @@ use Rattle.elf_file.specs.Header.{word}
 use Rattle.g_graph.specs.Plain.{PlainObject, PlainLambda, PlainOmega}
 use Rattle.s_linear.specs.Frame.{PlainPlaces}
 use Rattle.s_linear.specs.Lines.{Line}
+use Rattle.s_linear.specs.declared.frame.CodeForm.TheVariants.{Plain}
 use Rattle.a_place.specs.Places.{places}
 use Rattle.rv_isa.specs.declared.instruction.Instr.{Instr}
 use Rattle.rv_layout.specs.Items.{items_size, label_at}
@@ -34,26 +35,26 @@ lines_with_code a labels p os i at (l ∷ ls) =
 abbrev pub functions_lines : (at : ℕ) → List PlainLambda → (words : List ℕ) → List Listed
 functions_lines at [] ws = []
 functions_lines at (l ∷ ls) ws =
-    lines_from (places (lines_of l)) l.objects 0 at (lines_of l) ws ++ functions_lines (at + code_size l) ls (drop (code_size l / 4) ws)
+    lines_from (places (lines_of l)) l.objects 0 at (lines_of l) ws ++ functions_lines (at + code_size Plain l) ls (drop (code_size Plain l / 4) ws)
 
 -- the lines of functions, with the words of their own items
 abbrev pub functions_with_code : Addresses → (at : ℕ) → List PlainLambda → List Listed
 functions_with_code a at [] = []
 functions_with_code a at (l ∷ ls) =
-    lines_with_code a (λ k. label_at k at (function_items l)) (places (lines_of l)) l.objects 0 at (lines_of l)
-    ++ functions_with_code a (at + code_size l) ls
+    lines_with_code a (λ k. label_at k at (function_items Plain l)) (places (lines_of l)) l.objects 0 at (lines_of l)
+    ++ functions_with_code a (at + code_size Plain l) ls
 
 -- Each line that is listed of an image has the words of its own items, at their addresses.
 abbrev pub WordsAreOfTheirLines : Type 0
 WordsAreOfTheirLines =
     (omega : PlainOmega) (ls : List PlainLambda)
-    → functions_lines functions_at ls (drop 29 (words_in (image_of omega ls).text))
-    ≡ functions_with_code (addresses_of (map function_items ls) omega.deltas) functions_at ls
+    → functions_lines functions_at ls (drop 29 (words_in (image_of Plain omega ls).text))
+    ≡ functions_with_code (addresses_of (map (function_items Plain) ls) omega.deltas) functions_at ls
 
 -- The words that are listed of an image are those of its text, each once, in order; and as bytes they are its text.
 pub record IsTheText (omega : PlainOmega) (ls : List PlainLambda) (words : List ℕ) : Type 0 where
   pub listed : take 8 words ++ take 9 (drop 8 words) ++ take 12 (drop 17 words) ++ words_listed (functions_lines functions_at ls (drop 29 words)) ≡ words
-  pub bytes : flat_map word words ≡ (image_of omega ls).text
+  pub bytes : flat_map word words ≡ (image_of Plain omega ls).text
 
 abbrev pub WordsAreTheText : Type 0
-WordsAreTheText = (omega : PlainOmega) (ls : List PlainLambda) → CanEmit omega ls → IsTheText omega ls (words_in (image_of omega ls).text)
+WordsAreTheText = (omega : PlainOmega) (ls : List PlainLambda) → CanEmit omega ls → IsTheText omega ls (words_in (image_of Plain omega ls).text)

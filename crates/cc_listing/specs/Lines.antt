@@ -7,6 +7,7 @@ use Rattle.s_linear.specs.Frame.{PlainPlaces, frame_size}
 use Rattle.s_linear.specs.Linear as linear
 use Rattle.s_linear.specs.Linear.{Instr}
 use Rattle.s_linear.specs.Lines.{Line, done}
+use Rattle.s_linear.specs.declared.frame.CodeForm.TheVariants.{Plain}
 use Rattle.a_place.specs.Places.{places}
 use Rattle.rv_layout.specs.Items.{items_size}
 use Rattle.rv_layout.specs.Layout.{put_at, get_at, functions_at}
@@ -86,7 +87,7 @@ function_text names name l at ws = placed_text names name (places (lines_of l)) 
 unfoldable pub functions_text : (names : List (List ℕ)) → (number at : ℕ) → List PlainLambda → (words : List ℕ) → List ℕ
 functions_text names f at [] ws = []
 functions_text names f at (l ∷ ls) ws =
-    function_text names (name_at names f) l at ws ++ functions_text names (f + 1) (at + code_size l) ls (drop (code_size l / 4) ws)
+    function_text names (name_at names f) l at ws ++ functions_text names (f + 1) (at + code_size Plain l) ls (drop (code_size Plain l / 4) ws)
 
 -- ---- images
 
@@ -110,4 +111,4 @@ sections_text names globals ls ds image =
 -- the listing of the image of these lambdas, with some names of the globals
 pub record IsListing (omega : PlainOmega) (ls : List PlainLambda) (text : List ℕ) : Type 0 where
   pub globals : List (List ℕ)
-  pub all : text ≡ sections_text omega.names globals ls omega.deltas (image_of omega ls)
+  pub all : text ≡ sections_text omega.names globals ls omega.deltas (image_of Plain omega ls)

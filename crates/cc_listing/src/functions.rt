@@ -5,6 +5,7 @@ ghost use Rattle.s_linear.specs.Frame.{frame_size};
 ghost use Rattle.rv_layout.specs.Items.{items_size};
 ghost use Rattle.s_select.specs.Conditions.{CanSelect};
 ghost use Rattle.s_select.specs.Templates.{items_of};
+ghost use Rattle.s_linear.specs.declared.frame.CodeForm.TheVariants.{Plain};
 ghost use Rattle.cc_emit_def.specs.Image.{code_size};
 ghost use Rattle.cc_emit_def.specs.Laws.{IsFunction};
 ghost use Rattle.cc_listing.specs.Lines.{function_text, global_text, head_text, place_text, placed_text, places_text};
@@ -109,9 +110,9 @@ pub(crate) fn push_function(
     words: &[u32],
 ) -> Result<u32, NoMemory>
     requires function { IsFunction lambda.now }
-    requires whole { code_size lambda.now ≤ 4 * length words.now }
-    requires end { at + code_size lambda.now < 2 ^ 32 }
-    ensures end { IfOk result (λ end. end ≡ at + code_size lambda.now) }
+    requires whole { code_size Plain lambda.now ≤ 4 * length words.now }
+    requires end { at + code_size Plain lambda.now < 2 ^ 32 }
+    ensures end { IfOk result (λ end. end ≡ at + code_size Plain lambda.now) }
     ensures text { OnOk result (out.new.items
         ≡ out.old.items ++ function_text names.now name.now lambda.now at words.now) }
 {

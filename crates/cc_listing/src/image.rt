@@ -5,6 +5,7 @@ ghost use Rattle.std.specs.Arc.{arc_value};
 ghost use Rattle.elf_file.specs.Image.{sections_of};
 ghost use Rattle.g_graph.specs.Plain.{PlainLambda};
 ghost use Rattle.rv_layout.specs.Layout.{functions_at};
+ghost use Rattle.s_linear.specs.declared.frame.CodeForm.TheVariants.{Plain};
 ghost use Rattle.cc_emit_def.specs.Image.{CanEmit, code_size, image_of, lambdas_of};
 ghost use Rattle.cc_emit_def.specs.Laws.{IsFunction};
 ghost use Rattle.cc_listing.specs.Lines.{IsListing, functions_text, start_text, text_of};
@@ -33,7 +34,7 @@ fn push_functions(
 ) -> Result<(), NoMemory>
     requires functions { (f : ℕ) (l : PlainLambda)
         → slice_get (lambdas_of (map arc_value answers.now)) f ≡ Some l → IsFunction l }
-    requires whole { sum_by code_size (lambdas_of (map arc_value answers.now))
+    requires whole { sum_by (code_size Plain) (lambdas_of (map arc_value answers.now))
         ≤ 4 * length words.now }
     requires end { at + 4 * length words.now < 2 ^ 32 }
     ensures { OnOk result (out.new.items ≡ out.old.items ++ functions_text names.now 0 at
@@ -72,7 +73,7 @@ fn push_text(
     requires functions { (f : ℕ) (l : PlainLambda)
         → slice_get (lambdas_of (map arc_value answers.now)) f ≡ Some l → IsFunction l }
     requires there { 29 ≤ length words.now }
-    requires whole { sum_by code_size (lambdas_of (map arc_value answers.now))
+    requires whole { sum_by (code_size Plain) (lambdas_of (map arc_value answers.now))
         ≤ 4 * length (drop 29 words.now) }
     requires end { functions_at + 4 * length (drop 29 words.now) < 2 ^ 32 }
     ensures { OnOk result (out.new.items ≡ out.old.items
@@ -93,7 +94,7 @@ fn push_code(
 ) -> Result<(), NoMemory>
     requires program { CanEmit omega.now (lambdas_of (map arc_value answers.now)) }
     requires image { sections_of image.now
-        ≡ image_of omega.now (lambdas_of (map arc_value answers.now)) }
+        ≡ image_of Plain omega.now (lambdas_of (map arc_value answers.now)) }
     ensures { OnOk result (out.new.items ≡ out.old.items ++ text_of omega.now.names
         (lambdas_of (map arc_value answers.now)) (words_in image.now.text.items)) }
 {
@@ -115,7 +116,7 @@ pub fn listing(
 ) -> Result<Vec<u8>, NoMemory>
     requires program { CanEmit omega.now (lambdas_of (map arc_value answers.now)) }
     requires image { sections_of image.now
-        ≡ image_of omega.now (lambdas_of (map arc_value answers.now)) }
+        ≡ image_of Plain omega.now (lambdas_of (map arc_value answers.now)) }
     ensures { IfOk result (λ text.
         IsListing omega.now (lambdas_of (map arc_value answers.now)) text.items) }
 {

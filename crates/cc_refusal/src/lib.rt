@@ -2,6 +2,10 @@
 //! Always: a source is accepted or has one refusal, never both and never two.
 #![tactic(auto)]
 
+// What is passed on of the libraries below.
+pub use cc_source;
+pub use cc_source::c_check;
+
 pub mod laws;
 mod outcome;
 mod refusal;

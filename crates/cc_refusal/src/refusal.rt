@@ -3,11 +3,11 @@
 ghost use Rattle.std.specs.Prelude.{◌≡◌, ◌≤◌, ◌<◌, ◌^◌, count_by, length};
 ghost use Rattle.cc_refusal.specs.Refusal.{line_at, refused_at, refusal_of, refusal_of_text, refusal_of_tokens, refusal_of_tree, refusal_of_values, is_line_end};
 
-use c_check::CheckFault;
 use c_lex::LexFault;
 use c_parse::ParseFault;
 use cc_report::{Refusal, RefusalKind};
 use cc_source::CompileFault;
+use cc_source::c_check::CheckFault;
 use g_build::BuildFault;
 
 fn line_ends(text: &[u8]) -> u64

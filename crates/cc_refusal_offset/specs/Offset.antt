@@ -4,12 +4,12 @@ use Rattle.c_lex.specs.declared.fault.LexFault.{LexFault}
 use Rattle.c_lex.specs.declared.fault.LexFault.TheVariants as lexer
 use Rattle.c_parse.specs.declared.fault.ParseFault.{ParseFault}
 use Rattle.c_parse.specs.declared.fault.ParseFault.TheVariants as parser
-use Rattle.c_check.specs.declared.fault.CheckFault.{CheckFault}
-use Rattle.c_check.specs.declared.fault.CheckFault.TheVariants as checker
+use Rattle.cc_refusal.specs.c_check.declared.fault.CheckFault.{CheckFault}
+use Rattle.cc_refusal.specs.c_check.declared.fault.CheckFault.TheVariants as checker
 use Rattle.g_build.specs.declared.omega.BuildFault.{BuildFault}
 use Rattle.g_build.specs.declared.omega.BuildFault.TheVariants as construction
-use Rattle.cc_source.specs.declared.fault.CompileFault.{CompileFault}
-use Rattle.cc_source.specs.declared.fault.CompileFault.TheVariants as fault
+use Rattle.cc_refusal.specs.cc_source.declared.fault.CompileFault.{CompileFault}
+use Rattle.cc_refusal.specs.cc_source.declared.fault.CompileFault.TheVariants as fault
 use Rattle.cc_report.specs.declared.refusal.Refusal.{Refusal}
 use Rattle.cc_refusal.specs.Refusal.{line_at, refusal_of}
 

@@ -3,6 +3,9 @@
 //! Always: the offset lies in the source, or behind its last byte.
 #![tactic(auto)]
 
+// What is passed on of the libraries below.
+pub use cc_refusal::cc_source;
+
 pub mod laws;
 mod offset;
 

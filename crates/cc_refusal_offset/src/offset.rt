@@ -3,10 +3,10 @@
 ghost use Rattle.std.specs.Prelude.{◌≡◌, ◌≤◌, IfSome, length, min, option_map};
 ghost use Rattle.cc_refusal_offset.specs.Offset.{offset_of, offset_of_text, offset_of_tokens, offset_of_tree, offset_of_values};
 
-use c_check::CheckFault;
 use c_lex::LexFault;
 use c_parse::ParseFault;
-use cc_source::CompileFault;
+use cc_refusal::c_check::CheckFault;
+use cc_refusal::cc_source::CompileFault;
 use g_build::BuildFault;
 
 fn offset_of_text(fault: LexFault) -> Option<u32>

@@ -1,7 +1,7 @@
 -- An image that is made anew does what the source of the session does.
 use Rattle.std.proofs.Common.{ℕ, List, sym, subst}
 use Rattle.cc_emit_def.specs.Image.{lambdas_of}
-use Rattle.cc_source_keeps.specs.Meaning.{KeepsMeaning}
+use Rattle.cc_compile_keeps.specs.cc_source_keeps.Meaning.{KeepsMeaning}
 use Rattle.cc_source_laws.specs.SourceLaws.{AreBytes}
 use Rattle.cc_compile_keeps.specs.Laws.{RecipesKeepMeaning}
 use Rattle.cc_session.specs.Session.{PlainSession}
@@ -12,6 +12,6 @@ pub made_of : RecipesKeepMeaning → (session : PlainSession) (bytes : List ℕ)
 made_of keep session bytes jobs are h = record {
   rebuilt = h;
   meaning =
-      subst (KeepsMeaning h.program (lambdas_of h.image.answers)) (sym h.image.file)
-      (keep session.source are h.program h.accepted session.recipe h.image.answers h.image.made);
+      subst (KeepsMeaning session.form h.program (lambdas_of h.image.answers)) (sym h.image.file)
+      (keep session.form session.source are h.program h.accepted session.recipe h.image.answers h.image.made);
 }

@@ -2,6 +2,7 @@
 use Rattle.std.proofs.Common.{◌≡◌, ℕ, List, take, Option, Result, Ok, Err, IfOk, ap, subst, ◌∙◌, inl, inr}
 use Rattle.std.specs.Option.{ForSome}
 use Rattle.g_graph.specs.declared.steps.Rule.{Rule}
+use Rattle.s_linear.specs.declared.frame.CodeForm.{CodeForm}
 use Rattle.cc_io.specs.Faults.{Increased}
 use Rattle.cc_io.specs.Files.{Name, FileSet, content}
 use Rattle.cc_outside.specs.Outside.{Outside, FilesSeen, ReadFails, WriteFails}
@@ -16,19 +17,19 @@ use Rattle.cc_script.specs.Steps.{IsOpened}
 
 -- ---- the text that was read
 
-opened_of_read : (recipe : List Rule) (source : Name) (known : Option FileSet) (read : List ℕ) (session : PlainSession)
-    → ForSome known (λ files. read ≡ take 1048577 (content source files)) → IsAcceptedSource read → session ≡ opened read recipe → IsOpened recipe source known session
-opened_of_read recipe source known read session same accepted is = record {
+opened_of_read : (recipe : List Rule) (form : CodeForm) (source : Name) (known : Option FileSet) (read : List ℕ) (session : PlainSession)
+    → ForSome known (λ files. read ≡ take 1048577 (content source files)) → IsAcceptedSource read → session ≡ opened read recipe form → IsOpened recipe form source known session
+opened_of_read recipe form source known read session same accepted is = record {
   text = read;
   read = λ files at. whole_text (content source files) read accepted.0 (same files at) accepted.1;
   accepted = accepted;
   is = is;
 }
 
-pub opened_on_read : (recipe : List Rule) (source : Name) (known : Option FileSet) (read : List ℕ) (r : Result PlainSession Outcome)
-    → ForSome known (λ files. read ≡ take 1048577 (content source files)) → IfOk r (λ s. s ≡ opened read recipe) → IfOk r (λ s. IsAcceptedSource read) → IfOk r (IsOpened recipe source known)
-opened_on_read recipe source known read (Ok session) same is accepted = opened_of_read recipe source known read session same accepted is
-opened_on_read recipe source known read (Err e) same is accepted = tt
+pub opened_on_read : (recipe : List Rule) (form : CodeForm) (source : Name) (known : Option FileSet) (read : List ℕ) (r : Result PlainSession Outcome)
+    → ForSome known (λ files. read ≡ take 1048577 (content source files)) → IfOk r (λ s. s ≡ opened read recipe form) → IfOk r (λ s. IsAcceptedSource read) → IfOk r (IsOpened recipe form source known)
+opened_on_read recipe form source known read (Ok session) same is accepted = opened_of_read recipe form source known read session same accepted is
+opened_on_read recipe form source known read (Err e) same is accepted = tt
 
 -- ---- a script on files of which no more is changed than counts of what was not opened or read
 
@@ -75,12 +76,12 @@ module _ (session : PlainSession) (image : Name) (before after : Outside) (files
 
 -- ---- the session ends
 
-module _ (recipe : List Rule) (source image : Name) (before after : Outside) where
-  opens : (session : PlainSession) → IsOpened recipe source before.files.known session → (P : PlainSession → Type 0) → P session → Opens recipe source before P
+module _ (recipe : List Rule) (form : CodeForm) (source image : Name) (before after : Outside) where
+  opens : (session : PlainSession) → IsOpened recipe form source before.files.known session → (P : PlainSession → Type 0) → P session → Opens recipe form source before P
   opens session o P h = record { text = o.text; read = o.read; accepted = o.accepted; so = subst P o.is h }
 
-  pub ends_opened : (session : PlainSession) (e : Outcome) → IsOpened recipe source before.files.known session → ScriptEnds session image e before after →
-      SessionEnds recipe source image e before after
+  pub ends_opened : (session : PlainSession) (e : Outcome) → IsOpened recipe form source before.files.known session → ScriptEnds session image e before after →
+      SessionEnds recipe form source image e before after
   ends_opened session outcome.Done o h = opens session o (λ s. ScriptEnds s image outcome.Done before after) h
   ends_opened session (outcome.Script number) o h = opens session o (λ s. ScriptEnds s image (outcome.Script number) before after) h
   ends_opened session outcome.ReadFault o h = inr (opens session o (λ s. ScriptEnds s image outcome.ReadFault before after) h)
@@ -88,7 +89,7 @@ module _ (recipe : List Rule) (source image : Name) (before after : Outside) whe
   ends_opened session outcome.NoMemory o h = inr (opens session o (λ s. ScriptEnds s image outcome.NoMemory before after) h)
   ends_opened session _ o h = absurd h
 
-  pub ends_unopened : (e : Outcome) → CompileFails source e before.files.known (ReadFails source before.files after.files) → IsUntouched before after → SessionEnds recipe source image e before after
+  pub ends_unopened : (e : Outcome) → CompileFails source e before.files.known (ReadFails source before.files after.files) → IsUntouched before after → SessionEnds recipe form source image e before after
   ends_unopened (outcome.Refused refusal) h same = (h, same)
   ends_unopened outcome.ReadFault h same = inl (h, same)
   ends_unopened outcome.NoMemory h same = inl same

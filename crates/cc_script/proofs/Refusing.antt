@@ -4,9 +4,9 @@ use Rattle.cc_refusal.specs.Refusal.{refusal_of}
 use Rattle.cc_report.specs.declared.outcome.Outcome.{Outcome}
 use Rattle.cc_report.specs.declared.outcome.Outcome.TheVariants as outcome
 use Rattle.cc_report.specs.declared.refusal.Refusal.{Refusal}
-use Rattle.cc_edit.specs.declared.fault.EditFault.{EditFault}
-use Rattle.cc_edit.specs.declared.fault.EditFault.TheVariants as fault
-use Rattle.cc_source.specs.declared.fault.CompileFault.{CompileFault}
+use Rattle.cc_session.specs.cc_edit.declared.fault.EditFault.{EditFault}
+use Rattle.cc_session.specs.cc_edit.declared.fault.EditFault.TheVariants as fault
+use Rattle.cc_refusal.specs.cc_source.declared.fault.CompileFault.{CompileFault}
 use Rattle.cc_session.specs.Session.{PlainSession, IsReplaceRefused}
 use Rattle.cc_script_text.specs.declared.command.Command.TheVariants.{Replace}
 use Rattle.cc_script.specs.declared.answer.Answer.{Answer}

@@ -8,15 +8,15 @@ use Rattle.g_pass_order.specs.Calls.{IsOrder}
 use Rattle.g_pass_order.specs.Laws.{OrdersAreUnique}
 use Rattle.g_pass_stale.specs.Stale.{AreStale, IsUnstale}
 use Rattle.c_typed.specs.Typed.{ProgramTree}
-use Rattle.cc_source.specs.Accepted as source
-use Rattle.cc_source.specs.Accepted.{Accepts, Refuses}
-use Rattle.cc_source.specs.declared.fault.CompileFault.{CompileFault}
-use Rattle.cc_compile.specs.Compiled.{IsImageUnder, OneImage}
+use Rattle.cc_refusal.specs.cc_source.Accepted as source
+use Rattle.cc_refusal.specs.cc_source.Accepted.{Accepts, Refuses}
+use Rattle.cc_refusal.specs.cc_source.declared.fault.CompileFault.{CompileFault}
+use Rattle.cc_session.specs.cc_compile.Compiled.{IsImageUnder, OneImage}
 use Rattle.cc_refusal.specs.Refusal.{refusal_of}
 use Rattle.cc_report.specs.declared.refusal.Refusal.{Refusal}
-use Rattle.cc_edit.specs.Accepted.{PlainAccepted}
-use Rattle.cc_edit.specs.Edits.{extent_of, names_of, replaced, IsReplaced}
-use Rattle.cc_edit.specs.declared.fault.EditFault.TheVariants as fault
+use Rattle.cc_session.specs.cc_edit.Accepted.{PlainAccepted}
+use Rattle.cc_session.specs.cc_edit.Edits.{extent_of, names_of, replaced, IsReplaced}
+use Rattle.cc_session.specs.cc_edit.declared.fault.EditFault.TheVariants as fault
 use Rattle.cc_session.specs.Session.{PlainSession, Replaces, IsReplaceRefused}
 use Rattle.cc_session.specs.Rebuilds.{HasDeps, HadDeps, AreStaleSince, IsRebuilt}
 use Rattle.cc_script_text.specs.declared.command.Command.{Command}
@@ -71,7 +71,7 @@ module _ (one_program : source.OneProgram) (orders : OrdersAreUnique) where
     one_file : (session : PlainSession) (bytes others : List ℕ) (jobs more : ℕ) → IsRebuilt session bytes jobs → IsRebuilt session others more → bytes ≡ others
     one_file session bytes others jobs more a b =
         let same = one_program session.source a.program b.program a.accepted b.accepted in
-        one_image session.recipe b.program bytes others (subst (λ p. IsImageUnder session.recipe p bytes) same a.image) b.image
+        one_image session.recipe session.form b.program bytes others (subst (λ p. IsImageUnder session.recipe session.form p bytes) same a.image) b.image
 
     one_build : (before x y : Held) (jobs others : ℕ) → AnswersImage before jobs x → AnswersImage before others y → (Image jobs ≡ Image others) × (x ≡ y)
     one_build before x y jobs others a b =
@@ -120,7 +120,7 @@ module _ (one_program : source.OneProgram) (orders : OrdersAreUnique) where
       replaced_twice : (x y : PlainSession) → Replaces old name text x → Replaces old name text y → x ≡ y
       replaced_twice x y a b =
           let same = new_of a.before b.before a.after.source b.after.source (a.source_was, a.accepted) (b.source_was, b.accepted) a.edited.replaced b.edited.replaced in
-          a.new_is ∙ (ap (λ s. record { source = s; recipe = old.recipe; last = old.last }) same ∙ sym b.new_is)
+          a.new_is ∙ (ap (λ s. record { source = s; recipe = old.recipe; form = old.form; last = old.last }) same ∙ sym b.new_is)
 
       not_replaced : (x : PlainSession) → Replaces old name text x → IsReplaceRefused fault.NoFunction old name text → ⊥
       not_replaced x a b =

@@ -5,8 +5,8 @@ use Rattle.cc_io.specs.Files.{Name, FileSet}
 use Rattle.cc_io.specs.Source.{prepend}
 use Rattle.cc_io.specs.Sink.{append}
 use Rattle.cc_outside.specs.Outside.{Outside}
-use Rattle.cc_source.specs.Accepted as source
-use Rattle.cc_compile.specs.Compiled.{OneImage}
+use Rattle.cc_refusal.specs.cc_source.Accepted as source
+use Rattle.cc_session.specs.cc_compile.Compiled.{OneImage}
 use Rattle.cc_session.specs.Session.{PlainSession}
 use Rattle.cc_script_text.specs.Script.{Script, script, stops, with_end, with_lack, Ending}
 use Rattle.cc_script_text.specs.Laws.{after_all, RestIsNotRead}
@@ -60,7 +60,7 @@ module _ (not_read : RestIsNotRead) (one_program : source.OneProgram) (orders : 
       )
 
   pub sessions_leave_the_same : SessionsLeaveTheSame
-  sessions_leave_the_same recipe source_name image before after other_before other_after files bytes a b known other_known input other_input output =
+  sessions_leave_the_same recipe form source_name image before after other_before other_after files bytes a b known other_known input other_input output =
       let texts : a.text ≡ b.text = a.read files known ∙ sym (b.read files other_known) in
-      leave_the_same (opened b.text recipe) image before after other_before other_after files bytes
-      (subst (λ t. IsPlayed (opened t recipe) image before after) texts a.so) b.so known other_known input other_input output
+      leave_the_same (opened b.text recipe form) image before after other_before other_after files bytes
+      (subst (λ t. IsPlayed (opened t recipe form) image before after) texts a.so) b.so known other_known input other_input output

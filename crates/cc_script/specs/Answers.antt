@@ -6,10 +6,10 @@ use Rattle.cc_report.specs.Text.{decimal_text}
 use Rattle.cc_report.specs.declared.outcome.Outcome.TheVariants as outcome
 use Rattle.cc_report.specs.declared.refusal.Refusal.{Refusal}
 use Rattle.cc_refusal.specs.Refusal.{refusal_of}
-use Rattle.cc_source.specs.declared.fault.CompileFault.{CompileFault}
+use Rattle.cc_refusal.specs.cc_source.declared.fault.CompileFault.{CompileFault}
 use Rattle.cc_emit_def.specs.Image.{lambdas_of}
-use Rattle.cc_source_keeps.specs.Meaning.{KeepsMeaning}
-use Rattle.cc_edit.specs.declared.fault.EditFault.TheVariants as fault
+use Rattle.cc_compile_keeps.specs.cc_source_keeps.Meaning.{KeepsMeaning}
+use Rattle.cc_session.specs.cc_edit.declared.fault.EditFault.TheVariants as fault
 use Rattle.cc_session.specs.Session.{PlainSession, Replaces, IsReplaceRefused}
 use Rattle.cc_session.specs.Rebuilds.{IsRebuilt}
 use Rattle.cc_script_text.specs.declared.command.Command.{Command}
@@ -56,7 +56,7 @@ pub record AnswersRefused (before : Held) (name text : List ℕ) (refusal : Refu
 -- The bytes are the image of the session's source, which does what the source does, and so many functions were stale.
 pub record IsMade (session : PlainSession) (bytes : List ℕ) (jobs : ℕ) : Type 0 where
   pub rebuilt : IsRebuilt session bytes jobs
-  pub meaning : KeepsMeaning rebuilt.program (lambdas_of rebuilt.image.answers) bytes
+  pub meaning : KeepsMeaning session.form rebuilt.program (lambdas_of rebuilt.image.answers) bytes
 
 -- The image of the source is made.
 pub record AnswersImage (before : Held) (jobs : ℕ) (after : Held) : Type 0 where

@@ -2,7 +2,8 @@
 use Rattle.std.specs.Prelude.{◌≡◌, ◌⊎◌, ℕ, None, List}
 use Rattle.std.specs.Option.{ForSome}
 use Rattle.g_graph.specs.declared.steps.Rule.{Rule}
-use Rattle.cc_compile.specs.RecipeText.{IsTextOf}
+use Rattle.s_linear.specs.declared.frame.CodeForm.{CodeForm}
+use Rattle.cc_session.specs.cc_compile.RecipeText.{IsTextOf}
 use Rattle.cc_io.specs.Files.{Name, content}
 use Rattle.cc_outside.specs.Outside.{Outside, IfKnown, ReadFails, Unchanged}
 use Rattle.cc_refusal.specs.Refused.{IsRefused}
@@ -18,33 +19,33 @@ pub record IsUntouched (before after : Outside) : Type 0 where
   pub output : after.output ≡ before.output
 
 -- a session before the first command
-abbrev pub opened : (text : List ℕ) (recipe : List Rule) → PlainSession
-opened text recipe = record { source = text; recipe = recipe; last = None }
+abbrev pub opened : (text : List ℕ) (recipe : List Rule) (form : CodeForm) → PlainSession
+opened text recipe form = record { source = text; recipe = recipe; form = form; last = None }
 
 -- The text of IN, which is that of its file where the files are known, is accepted, and this holds of the session on it.
-pub record Opens (recipe : List Rule) (source : Name) (before : Outside) (P : PlainSession → Type 0) : Type 0 where
+pub record Opens (recipe : List Rule) (form : CodeForm) (source : Name) (before : Outside) (P : PlainSession → Type 0) : Type 0 where
   pub text : List ℕ
   pub read : ForSome before.files.known (λ files. text ≡ content source files)
   pub accepted : IsAcceptedSource text
-  pub so : P (opened text recipe)
+  pub so : P (opened text recipe form)
 
-abbrev pub SessionEnds : (recipe : List Rule) (source image : Name) → Outcome → (before after : Outside) → Type 0
-SessionEnds recipe source image outcome.Done before after = Opens recipe source before (λ first. IsPlayed first image before after)
-SessionEnds recipe source image (outcome.Script number) before after = Opens recipe source before (λ first. IsBroken first image number before after)
-SessionEnds recipe source image (outcome.Refused refusal) before after =
+abbrev pub SessionEnds : (recipe : List Rule) (form : CodeForm) (source image : Name) → Outcome → (before after : Outside) → Type 0
+SessionEnds recipe form source image outcome.Done before after = Opens recipe form source before (λ first. IsPlayed first image before after)
+SessionEnds recipe form source image (outcome.Script number) before after = Opens recipe form source before (λ first. IsBroken first image number before after)
+SessionEnds recipe form source image (outcome.Refused refusal) before after =
     IfKnown source before.files (λ text. IsRefused text refusal) × IsUntouched before after
-SessionEnds recipe source image outcome.ReadFault before after =
+SessionEnds recipe form source image outcome.ReadFault before after =
     (ReadFails source before.files after.files × IsUntouched before after)
-    ⊎ Opens recipe source before (λ first. IsUnread first image before after)
-SessionEnds recipe source image outcome.WriteFault before after =
-    Opens recipe source before (λ first. IsUnsaved first image before after ⊎ IsUnsaid first image before after)
-SessionEnds recipe source image outcome.NoMemory before after =
-    IsUntouched before after ⊎ Opens recipe source before (λ first. LacksMemory first image before after)
-SessionEnds recipe source image _ before after = ⊥
+    ⊎ Opens recipe form source before (λ first. IsUnread first image before after)
+SessionEnds recipe form source image outcome.WriteFault before after =
+    Opens recipe form source before (λ first. IsUnsaved first image before after ⊎ IsUnsaid first image before after)
+SessionEnds recipe form source image outcome.NoMemory before after =
+    IsUntouched before after ⊎ Opens recipe form source before (λ first. LacksMemory first image before after)
+SessionEnds recipe form source image _ before after = ⊥
 
 -- ---- under the text of a recipe
 
--- The session ends so under the recipe that the list is of. Where it is of none the arguments are no command.
-pub record SessionEndsUnder (list : List ℕ) (source image : Name) (ended : Outcome) (before after : Outside) : Type 0 where
-  pub session : (recipe : List Rule) → IsTextOf recipe list → SessionEnds recipe source image ended before after
+-- The session ends so under the recipe that the list is of, in this form of code. Where it is of none the arguments are no command.
+pub record SessionEndsUnder (list : List ℕ) (form : CodeForm) (source image : Name) (ended : Outcome) (before after : Outside) : Type 0 where
+  pub session : (recipe : List Rule) → IsTextOf recipe list → SessionEnds recipe form source image ended before after
   pub usage : ((recipe : List Rule) → IsTextOf recipe list → ⊥) → ((ended ≡ outcome.Usage) ⊎ (ended ≡ outcome.NoMemory)) × (after ≡ before)

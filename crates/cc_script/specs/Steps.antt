@@ -2,6 +2,7 @@
 use Rattle.std.specs.Prelude.{◌≡◌, ◌⊎◌, ◌<◌, ◌≤◌, ℕ, suc, Option, None, Some, Result, Ok, Err, List, [], ◌++◌, length, take}
 use Rattle.std.specs.Option.{ForSome}
 use Rattle.g_graph.specs.declared.steps.Rule.{Rule}
+use Rattle.s_linear.specs.declared.frame.CodeForm.{CodeForm}
 use Rattle.cc_io.specs.Faults.{Increased}
 use Rattle.cc_io.specs.Files.{Name, FileSet, content}
 use Rattle.cc_io.specs.Sink.{append}
@@ -11,8 +12,8 @@ use Rattle.cc_refusal.specs.Refusal.{refusal_of}
 use Rattle.cc_report.specs.declared.outcome.Outcome.{Outcome}
 use Rattle.cc_report.specs.declared.outcome.Outcome.TheVariants as outcome
 use Rattle.cc_report.specs.declared.refusal.Refusal.{Refusal}
-use Rattle.cc_edit.specs.declared.fault.EditFault.{EditFault}
-use Rattle.cc_edit.specs.declared.fault.EditFault.TheVariants as fault
+use Rattle.cc_session.specs.cc_edit.declared.fault.EditFault.{EditFault}
+use Rattle.cc_session.specs.cc_edit.declared.fault.EditFault.TheVariants as fault
 use Rattle.cc_session.specs.Session.{PlainSession, IsAcceptedSource}
 use Rattle.cc_script_text.specs.Script.{first, most_commands}
 use Rattle.cc_script_text.specs.Taken.{left_of, TakesAll, TakesCommand, TakesPart, TakesBroken}
@@ -26,11 +27,11 @@ use Rattle.cc_script.specs.ScriptEnds.{with_image, LeavesAnswers}
 use Rattle.cc_script.specs.SessionEnds.{opened}
 
 -- A session on the text of the file of this name, where the files are known.
-pub record IsOpened (recipe : List Rule) (source : Name) (known : Option FileSet) (session : PlainSession) : Type 0 where
+pub record IsOpened (recipe : List Rule) (form : CodeForm) (source : Name) (known : Option FileSet) (session : PlainSession) : Type 0 where
   pub text : List ℕ
   pub read : ForSome known (λ files. text ≡ content source files)
   pub accepted : IsAcceptedSource text
-  pub is : session ≡ opened text recipe
+  pub is : session ≡ opened text recipe form
 
 -- ---- a command that is read
 

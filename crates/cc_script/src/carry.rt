@@ -10,11 +10,11 @@ ghost use Rattle.cc_script.specs.Steps.{answer_of, IsCarriedOut, IsNotCarriedOut
 
 use crate::answer::Answer;
 use board_work::Gate;
-use cc_edit::EditFault;
 use cc_io::{Files, save};
 use cc_refusal::{outcome_of, refusal_of};
 use cc_report::Outcome;
 use cc_script_text::Command;
+use cc_session::cc_edit::EditFault;
 use cc_session::{Rebuilt, Session};
 use std::sync::Wait;
 use std::thread::Threads;

@@ -8,9 +8,9 @@ pub fn sessions_leave_the_same()
     ensures { SessionsLeaveTheSame }
 {
     cc_script_text::laws::the_rest_is_not_read();
-    cc_source::laws::the_program_is_determined();
+    cc_refusal::cc_source::laws::the_program_is_determined();
     g_pass_order::laws::orders_are_unique();
-    cc_compile::laws::the_image_is_determined();
-    cc_source::laws::the_fault_is_determined();
-    cc_source::laws::accepted_is_not_refused();
+    cc_session::cc_compile::laws::the_image_is_determined();
+    cc_refusal::cc_source::laws::the_fault_is_determined();
+    cc_refusal::cc_source::laws::accepted_is_not_refused();
 }

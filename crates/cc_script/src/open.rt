@@ -7,23 +7,29 @@ ghost use Rattle.cc_session.specs.Session.{IsAcceptedSource};
 ghost use Rattle.cc_script.specs.SessionEnds.{opened};
 ghost use Rattle.cc_script.specs.Steps.{IsOpened};
 
+use cc_compile_keeps::g_pass::Recipe;
 use cc_io::Files;
 use cc_outside::load::{LoadError, load};
 use cc_refusal::{outcome_of, refusal_of};
 use cc_report::Outcome;
 use cc_session::Session;
-use g_pass::Recipe;
 use limits::MOST_SOURCE_BYTES;
+use s_linear::CodeForm;
 use std::alloc::Global;
 
 // A session on a text.
-fn session_on(alloc: Global, text: Vec<u8>, recipe: Recipe) -> Result<Session, Outcome>
-    ensures opened { IfOk result (λ s. s ≡ opened text.items recipe) }
+fn session_on(
+    alloc: Global,
+    text: Vec<u8>,
+    recipe: Recipe,
+    form: CodeForm,
+) -> Result<Session, Outcome>
+    ensures opened { IfOk result (λ s. s ≡ opened text.items recipe form) }
     ensures accepted { IfOk result (λ _. IsAcceptedSource text.items) }
     ensures rejected { IfErr result (IsRejectionOf text.items) }
 {
     let copy = Vec::from_slice(alloc, &text)?;
-    match Session::open(alloc, text, recipe) {
+    match Session::open(alloc, text, recipe, form) {
         Ok(session) => Ok(session),
         Err(fault) => Err(outcome_of(refusal_of(fault, &copy))),
     }
@@ -36,8 +42,9 @@ pub(crate) fn open<F: Files>(
     files: &mut F,
     source: &str,
     recipe: Recipe,
+    form: CodeForm,
 ) -> Result<Session, Outcome>
-    ensures opened { IfOk result (IsOpened recipe source.now (F.known files.old)) }
+    ensures opened { IfOk result (IsOpened recipe form source.now (F.known files.old)) }
     ensures err { IfErr result (λ e. CompileFails source.now e (F.known files.old)
         (Increased (F.open_faults files.old source.now) (F.open_faults files.new source.now)
         ⊎ Increased (F.read_faults files.old) (F.read_faults files.new))) }
@@ -46,7 +53,7 @@ pub(crate) fn open<F: Files>(
     ensures write_faults { F.write_faults files.new ≡ F.write_faults files.old }
 {
     match load(alloc, files, source, MOST_SOURCE_BYTES + 1) {
-        Ok(text) => session_on(alloc, text, recipe),
+        Ok(text) => session_on(alloc, text, recipe, form),
         Err(LoadError::Failed) => Err(Outcome::ReadFault),
         Err(LoadError::NoMemory) => Err(Outcome::NoMemory),
     }

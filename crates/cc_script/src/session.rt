@@ -8,16 +8,17 @@ ghost use Rattle.cc_script.specs.SessionEnds.{SessionEnds, SessionEndsUnder};
 use crate::open::open;
 use crate::play::play;
 use board_work::Gate;
-use cc_compile::recipe_of;
+use cc_compile_keeps::g_pass::Recipe;
+use cc_compile_keeps::g_pass::laws::texts_have_one_recipe;
 use cc_io::{Files, Sink, Source};
 use cc_report::Outcome;
-use g_pass::Recipe;
-use g_pass::laws::texts_have_one_recipe;
+use cc_session::cc_compile::recipe_of;
+use s_linear::CodeForm;
 use std::alloc::Global;
 use std::sync::Wait;
 use std::thread::Threads;
 
-// The session on the file named `source` under a recipe.
+// The session on the file named `source` under a recipe and in a form.
 fn session_under<H: Threads + Wait + Sync, F: Files, I: Source, O: Sink, G: Gate>(
     rt: &H,
     alloc: Global,
@@ -27,6 +28,7 @@ fn session_under<H: Threads + Wait + Sync, F: Files, I: Source, O: Sink, G: Gate
     source: &str,
     image: &str,
     recipe: Recipe,
+    form: CodeForm,
     workers: u32,
     gate: &G,
 ) -> Outcome
@@ -34,10 +36,10 @@ fn session_under<H: Threads + Wait + Sync, F: Files, I: Source, O: Sink, G: Gate
     requires few_workers { workers ≤ most_workers }
     ensures { let seen = outside_of F.known F.read_faults F.write_faults F.open_faults
         F.create_faults I.left I.faults O.held O.faults in
-        SessionEnds recipe source.now image.now result
+        SessionEnds recipe form source.now image.now result
         (seen files.old input.old output.old) (seen files.new input.new output.new) }
 {
-    match open(alloc, files, source, recipe) {
+    match open(alloc, files, source, recipe, form) {
         Ok(mut session) => play(
             rt,
             alloc,
@@ -53,8 +55,8 @@ fn session_under<H: Threads + Wait + Sync, F: Files, I: Source, O: Sink, G: Gate
     }
 }
 
-/// Opens a session on the source in the file named `source` under the recipe of this text, and
-/// answers the commands of the script on the input, each by a line on the output, which is handed
+/// Opens a session on the source in the file named `source` under the recipe of this text, in a
+/// form of code, and answers the commands of the script on the input, each by a line on the output, which is handed
 /// over at once. Each `build` creates the file named `image` anew, before its line, with the image
 /// of the session's source; 1 to `MOST_WORKERS` workers make it, each of which passes the gate
 /// before it makes a function. A text of no recipe is usage; no file is opened then. Nothing is
@@ -70,6 +72,7 @@ pub fn session<H: Threads + Wait + Sync, F: Files, I: Source, O: Sink, G: Gate>(
     source: &str,
     image: &str,
     recipe: &str,
+    form: CodeForm,
     workers: u32,
     gate: &G,
 ) -> Outcome
@@ -77,13 +80,13 @@ pub fn session<H: Threads + Wait + Sync, F: Files, I: Source, O: Sink, G: Gate>(
     requires few_workers { workers ≤ most_workers }
     ensures { let seen = outside_of F.known F.read_faults F.write_faults F.open_faults
         F.create_faults I.left I.faults O.held O.faults in
-        SessionEndsUnder recipe.now source.now image.now result
+        SessionEndsUnder recipe.now form source.now image.now result
         (seen files.old input.old output.old) (seen files.new input.new output.new) }
 {
     texts_have_one_recipe();
     match recipe_of(recipe) {
         Some(recipe) => session_under(
-            rt, alloc, files, input, output, source, image, recipe, workers, gate,
+            rt, alloc, files, input, output, source, image, recipe, form, workers, gate,
         ),
         None => Outcome::Usage,
     }

@@ -7,11 +7,12 @@ use Rattle.std.proofs.lemmas.List.Sums.{sum_by-cons}
 use Rattle.call_order.specs.Units.{IsPath}
 use Rattle.g_graph.specs.declared.steps.Rule.{Rule}
 use Rattle.g_graph.specs.Plain.{PlainLambda}
+use Rattle.s_linear.specs.declared.frame.CodeForm.{CodeForm}
 use Rattle.g_pass_order.specs.Calls.{IsOrder, no_lambda}
 use Rattle.g_pass_order.specs.Laws.{IsRankedOrder, OrdersAreRanked}
 use Rattle.g_pass_stale.specs.Stale.{AreStale, IsUnstale}
 use Rattle.cc_edit.specs.Accepted.{PlainAccepted}
-use Rattle.cc_session.specs.Session.{IsImageKept, IsLast, IsKept, IsSession, PlainKept, PlainSession}
+use Rattle.cc_session.specs.Session.{IsImageKept, IsLast, IsLastForm, IsKept, IsSession, PlainKept, PlainSession}
 use Rattle.cc_session.specs.Rebuilds.{AreStaleSince, HasDeps, IsRebuilt, last_source}
 
 -- ---- nothing is stale between a list and itself
@@ -77,19 +78,20 @@ module _ (is_ranked : OrdersAreRanked) (recipe : List Rule) (kept : PlainKept) (
         count = sym (none-counted kept.lambdas);
       }
 
-  again : IsRebuilt (record { source = kept.source; recipe = recipe; last = Some kept.source }) kept.image 0
+  again : IsRebuilt (record { source = kept.source; recipe = recipe; form = kept.form; last = Some kept.source }) kept.image 0
   again = record { program = is.program; accepted = is.accepted; image = is.image_is; are_stale = stale-since }
 
-module _ (now : PlainAccepted) (recipe : List Rule) (last : Option PlainKept) (image : List ℕ) (k : IsImageKept last now.source image) where
+module _ (now : PlainAccepted) (recipe : List Rule) (form : CodeForm) (last : Option PlainKept) (image : List ℕ) (k : IsImageKept last now.source image) where
   last-is : last_source last ≡ Some now.source
   last-is = ap last_source k.last_is ∙ ap (λ (s : List ℕ). Some s) k.source_is
 
-  pub rebuilt-again : OrdersAreRanked → IsSession now recipe last → (session : PlainSession) → session ≡ record { source = now.source; recipe = recipe; last = last_source last } →
+  pub rebuilt-again : OrdersAreRanked → IsSession now recipe form last → (session : PlainSession) → session ≡ record { source = now.source; recipe = recipe; form = form; last = last_source last } →
       (bytes : List ℕ) (jobs : ℕ) → bytes ≡ image → jobs ≡ 0 → IsRebuilt session bytes jobs
   rebuilt-again is_ranked valid session is bytes jobs same none_stale =
       let made = again is_ranked recipe k.kept (subst (IsLast recipe) k.last_is valid.is_last) in
-      let at : record { source = k.kept.source; recipe = recipe; last = Some k.kept.source } ≡ session =
-      ap (λ (s : List ℕ). record { source = s; recipe = recipe; last = Some s }) k.source_is
-      ∙ (ap (λ (l : Option (List ℕ)). record { source = now.source; recipe = recipe; last = l }) (sym last-is) ∙ sym is) in
+      let at : record { source = k.kept.source; recipe = recipe; form = k.kept.form; last = Some k.kept.source } ≡ session =
+      ap (λ (s : List ℕ). record { source = s; recipe = recipe; form = k.kept.form; last = Some s }) k.source_is
+      ∙ (ap (λ (f : CodeForm). record { source = now.source; recipe = recipe; form = f; last = Some now.source }) (subst (IsLastForm form) k.last_is valid.is_form)
+      ∙ (ap (λ (l : Option (List ℕ)). record { source = now.source; recipe = recipe; form = form; last = l }) (sym last-is) ∙ sym is)) in
       subst (λ (n : ℕ). IsRebuilt session bytes n) (sym none_stale)
       (subst (λ (b : List ℕ). IsRebuilt session b 0) (sym (same ∙ k.image_is)) (subst (λ (s : PlainSession). IsRebuilt s k.kept.image 0) at made))

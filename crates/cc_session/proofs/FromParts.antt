@@ -5,12 +5,13 @@ use Rattle.g_graph.specs.declared.steps.Rule.{Rule}
 use Rattle.g_graph.specs.Plain.{PlainLambda, PlainOptimised}
 use Rattle.g_graph.specs.Program.{lambda_values}
 use Rattle.g_build_def.specs.Functions as built
+use Rattle.s_linear.specs.declared.frame.CodeForm.{CodeForm}
 use Rattle.g_pass_order.specs.Calls.{IsOrder}
 use Rattle.g_pass_order.specs.Laws.{OrdersAreUnique}
 use Rattle.g_pass_def.specs.Answers.{AreAnswers}
-use Rattle.g_pass.specs.Sweep.{rules}
+use Rattle.g_pass_renew.specs.g_pass.Sweep.{rules}
 use Rattle.c_typed.specs.Typed.{ProgramTree}
-use Rattle.cc_source.specs.Accepted.{Accepts}
+use Rattle.cc_edit.specs.cc_source.Accepted.{Accepts}
 use Rattle.cc_emit_def.specs.Image.{file_of_program, lambdas_of, CanEmit}
 use Rattle.cc_compile.specs.Compiled.{IsImageUnder}
 use Rattle.cc_edit.specs.Accepted.{PlainAccepted}
@@ -32,7 +33,7 @@ had-deps recipe (Some k) it = record {
   order = subst (λ (ds : List (List ℕ)). IsOrder k.lambdas it.answered.ranks ds) it.deps_are it.answered.order;
 }
 
-module _ (unique : OrdersAreUnique) (now : PlainAccepted) (recipe : List Rule) (last : Option PlainKept) (is : IsSession now recipe last)
+module _ (unique : OrdersAreUnique) (now : PlainAccepted) (recipe : List Rule) (form : CodeForm) (last : Option PlainKept) (is : IsSession now recipe form last)
     (deps : List (List ℕ)) (stale : List Bool) (answers : List PlainOptimised) (made : AreRemade recipe last (built.graph now.program) deps stale answers) where
   stale-since : (jobs : ℕ) → jobs ≡ count_by (λ (b : Bool). b) stale → AreStaleSince (last_source last) now.source jobs
   stale-since jobs count = record {
@@ -47,11 +48,11 @@ module _ (unique : OrdersAreUnique) (now : PlainAccepted) (recipe : List Rule) (
     count = count;
   }
 
-  image-of : (bytes : List ℕ) → bytes ≡ file_of_program (built.omega now.program) (lambdas_of answers) → IsImageUnder recipe now.program bytes
+  image-of : (bytes : List ℕ) → bytes ≡ file_of_program form (built.omega now.program) (lambdas_of answers) → IsImageUnder recipe form now.program bytes
   image-of bytes file = record { answers = answers; made = made.answered; file = file }
 
   is-kept : (source : List ℕ) (ls : List PlainLambda) (own : List ℕ) → source ≡ now.source → ls ≡ built.graph now.program →
-      own ≡ file_of_program (built.omega now.program) (lambdas_of answers) → IsKept recipe (record { source = source; lambdas = ls; deps = deps; answers = answers; image = own })
+      own ≡ file_of_program form (built.omega now.program) (lambdas_of answers) → IsKept recipe (record { source = source; lambdas = ls; deps = deps; answers = answers; form = form; image = own })
   is-kept source ls own source-is ls-are file =
       let all = subst (λ (xs : List PlainLambda). AreAnswers rules recipe xs answers) (sym ls-are) made.answered in
       let order = subst (λ (xs : List PlainLambda). IsOrder xs made.ranks deps) (sym ls-are) made.order in
@@ -65,11 +66,12 @@ module _ (unique : OrdersAreUnique) (now : PlainAccepted) (recipe : List Rule) (
       }
 
   pub rebuilt : (bytes : List ℕ) (jobs : ℕ) (source : List ℕ) (ls : List PlainLambda) (own : List ℕ) →
-      bytes ≡ file_of_program (built.omega now.program) (lambdas_of answers) → jobs ≡ count_by (λ (b : Bool). b) stale → source ≡ now.source → ls ≡ built.graph now.program →
-      own ≡ bytes → IsRebuiltFrom now recipe last bytes jobs (record { source = source; lambdas = ls; deps = deps; answers = answers; image = own })
+      bytes ≡ file_of_program form (built.omega now.program) (lambdas_of answers) → jobs ≡ count_by (λ (b : Bool). b) stale → source ≡ now.source → ls ≡ built.graph now.program →
+      own ≡ bytes → IsRebuiltFrom now recipe form last bytes jobs (record { source = source; lambdas = ls; deps = deps; answers = answers; form = form; image = own })
   rebuilt bytes jobs source ls own file count source-is ls-are own-is = record {
     image = image-of bytes file;
     are_stale = stale-since jobs count;
     source_is = source-is;
     is_kept = is-kept source ls own source-is ls-are (own-is ∙ file);
+    form_is = refl;
   }

@@ -1,26 +1,32 @@
 -- The items of functions that are not stale are those that they had.
-use Rattle.std.proofs.Common.{◌≡◌, ◌∙◌, ℕ, Bool, true, false, List, sym, ap, subst, option_map}
+use Rattle.std.proofs.Common.{◌≡◌, ◌∙◌, ℕ, Bool, true, false, List, refl, sym, ap, subst, option_map}
 use Rattle.std.proofs.lemmas.Option.{slice_get-map}
-use Rattle.std.specs.Prelude.{Option, slice_get, slice_index_or}
+use Rattle.std.specs.Prelude.{Option, None, Some, slice_get, slice_index_or}
 use Rattle.g_graph.specs.declared.steps.Rule.{Rule}
 use Rattle.g_graph.specs.Plain.{PlainLambda, PlainOptimised}
 use Rattle.g_pass_order.specs.Laws.{OrdersAreUnique}
-use Rattle.g_pass.specs.Sweep.{rules}
+use Rattle.g_pass_renew.specs.g_pass.Sweep.{rules}
 use Rattle.g_pass_stale.specs.Laws.{UnstaleAnswersAreKept}
 use Rattle.g_pass_stale.specs.Stale.{IsUnstale}
+use Rattle.s_linear.specs.declared.frame.CodeForm.{CodeForm}
 use Rattle.rv_layout.specs.declared.item.Item.{Item}
 use Rattle.cc_emit_def.specs.Image.{function_items, lambdas_of}
-use Rattle.cc_session.specs.Items.{items_of, AreItemsKept}
-use Rattle.cc_session.specs.Session.{PlainKept, answers_of, IsLast}
+use Rattle.cc_session.specs.Items.{items_of, kept_items, AreItemsKept}
+use Rattle.cc_session.specs.Session.{PlainKept, answers_of, IsLast, IsLastForm}
 use Rattle.cc_session.specs.Rebuilds.{AreRemade}
 use Rattle.cc_session.proofs.Earlier.{kept-of}
 
 -- the items of an answer
-items-at : (answers : List PlainOptimised) (j : ℕ) → slice_get (items_of answers) j
-    ≡ option_map function_items (option_map (λ (o : PlainOptimised). o.lambda) (slice_get answers j))
-items-at answers j =
-    slice_get-map function_items (lambdas_of answers) j
-    ∙ ap (option_map function_items) (slice_get-map (λ (o : PlainOptimised). o.lambda) answers j)
+items-at : (form : CodeForm) (answers : List PlainOptimised) (j : ℕ) → slice_get (items_of form answers) j
+    ≡ option_map (function_items form) (option_map (λ (o : PlainOptimised). o.lambda) (slice_get answers j))
+items-at form answers j =
+    slice_get-map (function_items form) (lambdas_of answers) j
+    ∙ ap (option_map (function_items form)) (slice_get-map (λ (o : PlainOptimised). o.lambda) answers j)
+
+-- the items that are kept are those of the answers that are kept
+all-kept : (form : CodeForm) (last : Option PlainKept) → IsLastForm form last → kept_items last ≡ items_of form (answers_of last)
+all-kept form None is = refl
+all-kept form (Some k) is = ap (λ (f : CodeForm). items_of f k.answers) is
 
 module _ (unique : OrdersAreUnique) (law : UnstaleAnswersAreKept) (recipe : List Rule) (last : Option PlainKept) (is : IsLast recipe last)
     (ls : List PlainLambda) (deps : List (List ℕ)) (stale : List Bool) (answers : List PlainOptimised) (made : AreRemade recipe last ls deps stale answers) where
@@ -32,8 +38,8 @@ module _ (unique : OrdersAreUnique) (law : UnstaleAnswersAreKept) (recipe : List
       law rules recipe kept.earlier ls (answers_of last) answers kept.answered now j
       (subst (λ (ds : List (List ℕ)). IsUnstale kept.earlier kept.answered.deps ls ds j) (sym same) ((kept.are_stale.each j).0 fresh))
 
-  pub items-kept : (items : List (List Item)) → items ≡ items_of (answers_of last) → AreItemsKept answers stale items
-  items-kept items are j fresh =
-      ap (λ (xs : List (List Item)). slice_get xs j) are ∙ (items-at (answers_of last) j
-      ∙ (ap (λ (o : Option PlainOptimised). option_map function_items (option_map (λ (a : PlainOptimised). a.lambda) o)) (sym (answer-kept j fresh))
-      ∙ sym (items-at answers j)))
+  pub items-kept : (form : CodeForm) → IsLastForm form last → (items : List (List Item)) → items ≡ kept_items last → AreItemsKept form answers stale items
+  items-kept form is_form items are j fresh =
+      ap (λ (xs : List (List Item)). slice_get xs j) (are ∙ all-kept form last is_form) ∙ (items-at form (answers_of last) j
+      ∙ (ap (λ (o : Option PlainOptimised). option_map (function_items form) (option_map (λ (a : PlainOptimised). a.lambda) o)) (sym (answer-kept j fresh))
+      ∙ sym (items-at form answers j)))

@@ -3,12 +3,13 @@ use Rattle.std.specs.Prelude.{◌≡◌, ℕ, Bool, Option, None, Some, List, []
 use Rattle.g_graph.specs.declared.steps.Rule.{Rule}
 use Rattle.g_graph.specs.Plain.{PlainLambda, PlainOptimised}
 use Rattle.g_build_def.specs.Functions.{graph}
+use Rattle.s_linear.specs.declared.frame.CodeForm.{CodeForm}
 use Rattle.g_pass_order.specs.Calls.{IsOrder}
 use Rattle.g_pass_def.specs.Answers.{AreAnswers}
-use Rattle.g_pass.specs.Sweep.{rules}
+use Rattle.g_pass_renew.specs.g_pass.Sweep.{rules}
 use Rattle.g_pass_stale.specs.Stale.{AreStale}
 use Rattle.c_typed.specs.Typed.{ProgramTree}
-use Rattle.cc_source.specs.Accepted.{Accepts}
+use Rattle.cc_edit.specs.cc_source.Accepted.{Accepts}
 use Rattle.cc_compile.specs.Compiled.{IsImageUnder}
 use Rattle.cc_edit.specs.Accepted.{PlainAccepted}
 use Rattle.cc_session.specs.Session.{PlainKept, PlainSession, lambdas_of, deps_of, IsKept}
@@ -37,11 +38,11 @@ pub record AreStaleSince (last : Option (List ℕ)) (source : List ℕ) (jobs : 
   pub are_stale : AreStale old old_deps new deps stale
   pub count : jobs ≡ count_by (λ (b : Bool). b) stale
 
--- The bytes are the image of the session's source under its recipe, and so many functions were stale.
+-- The bytes are the image of the session's source under its recipe in its form, and so many functions were stale.
 pub record IsRebuilt (session : PlainSession) (bytes : List ℕ) (jobs : ℕ) : Type 0 where
   pub program : ProgramTree
   pub accepted : Accepts session.source program
-  pub image : IsImageUnder session.recipe program bytes
+  pub image : IsImageUnder session.recipe session.form program bytes
   pub are_stale : AreStaleSince session.last session.source jobs
 
 -- ---- the parts of a rebuild
@@ -57,8 +58,9 @@ abbrev pub last_source : Option PlainKept → Option (List ℕ)
 last_source last = option_map (λ (k : PlainKept). k.source) last
 
 -- what the parts of a session give
-pub record IsRebuiltFrom (now : PlainAccepted) (recipe : List Rule) (last : Option PlainKept) (bytes : List ℕ) (jobs : ℕ) (kept : PlainKept) : Type 0 where
-  pub image : IsImageUnder recipe now.program bytes
+pub record IsRebuiltFrom (now : PlainAccepted) (recipe : List Rule) (form : CodeForm) (last : Option PlainKept) (bytes : List ℕ) (jobs : ℕ) (kept : PlainKept) : Type 0 where
+  pub image : IsImageUnder recipe form now.program bytes
   pub are_stale : AreStaleSince (last_source last) now.source jobs
   pub source_is : kept.source ≡ now.source
   pub is_kept : IsKept recipe kept
+  pub form_is : kept.form ≡ form

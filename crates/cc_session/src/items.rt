@@ -12,6 +12,7 @@ use cc_emit::function_items;
 use g_graph::{Lambda, Optimised};
 use no_memory::NoMemory;
 use rv_layout::Item;
+use s_linear::CodeForm;
 use std::alloc::Global;
 use std::sync::Arc;
 
@@ -33,6 +34,7 @@ fn kept_items<'a>(stale: &[bool], kept: &'a [Vec<Item>], function: usize) -> Opt
 // The items of a function: a copy of those that are kept of it, or made of its lambda.
 fn items_at(
     alloc: Global,
+    form: CodeForm,
     lambda: &Lambda,
     stale: &[bool],
     kept: &[Vec<Item>],
@@ -40,12 +42,12 @@ fn items_at(
 ) -> Result<Vec<Item>, NoMemory>
     requires function { IsFunction lambda.now }
     requires kept { slice_index_or stale.now function true ≡ false
-        → slice_get (item_lists kept.now) function ≡ Some (function_items lambda.now) }
-    ensures { IfOk result (λ items. items.items ≡ function_items lambda.now) }
+        → slice_get (item_lists kept.now) function ≡ Some (function_items form lambda.now) }
+    ensures { IfOk result (λ items. items.items ≡ function_items form lambda.now) }
 {
     match kept_items(stale, kept, function) {
         Some(items) => Ok(Vec::from_slice(alloc, items)?),
-        None => function_items(alloc, lambda),
+        None => function_items(alloc, form, lambda),
     }
 }
 
@@ -53,18 +55,26 @@ fn items_at(
 /// they are copies of those that are kept. `NoMemory` only where the allocator has none.
 pub(crate) fn items_since(
     alloc: Global,
+    form: CodeForm,
     answers: &[Arc<Optimised>],
     stale: &[bool],
     kept: &[Vec<Item>],
 ) -> Result<Vec<Vec<Item>>, NoMemory>
     requires functions { (f : ℕ) (l : PlainLambda)
         → slice_get (lambdas_of (map arc_value answers.now)) f ≡ Some l → IsFunction l }
-    requires kept { AreItemsKept (map arc_value answers.now) stale.now (item_lists kept.now) }
-    ensures { IfOk result (λ all. item_lists all.items ≡ items_of (map arc_value answers.now)) }
+    requires kept { AreItemsKept form (map arc_value answers.now) stale.now (item_lists kept.now) }
+    ensures { IfOk result (λ all. item_lists all.items ≡ items_of form (map arc_value answers.now)) }
 {
     let mut all = Vec::with_capacity(alloc, answers.len())?;
     for function in 0..answers.len() {
-        all.push(items_at(alloc, &answers[function].lambda, stale, kept, function)?)?;
+        all.push(items_at(
+            alloc,
+            form,
+            &answers[function].lambda,
+            stale,
+            kept,
+            function,
+        )?)?;
     }
     Ok(all)
 }

@@ -5,15 +5,16 @@ ghost use Rattle.std.specs.Arc.{arc_value};
 ghost use Rattle.call_order.specs.Units.{call_lists};
 ghost use Rattle.rv_layout.specs.Layout.{item_lists};
 ghost use Rattle.cc_session.specs.Session.{answers_of, deps_of, lambdas_of, IsImageKept};
-ghost use Rattle.cc_session.specs.Items.{items_of};
+ghost use Rattle.cc_session.specs.Items.{kept_items};
 
 use g_graph::{Lambda, Optimised};
 use rv_layout::Item;
+use s_linear::CodeForm;
 use std::marker::Model;
 use std::sync::Arc;
 
 /// What is kept of the last rebuild: its source, the lambdas of its program, the deps of each, what
-/// the recipe made of each, the items of each function, and the image. Contracts see a plain record
+/// the recipe made of each, the form, the items of each function, and the image. Contracts see a plain record
 /// without the items, which are those of the answers.
 #[derive(Drop)]
 pub(crate) struct Kept {
@@ -21,6 +22,7 @@ pub(crate) struct Kept {
     pub(crate) lambdas: Vec<Lambda>,
     pub(crate) deps: Vec<Vec<u32>>,
     pub(crate) answers: Vec<Arc<Optimised>>,
+    pub(crate) form: CodeForm,
     pub(crate) items: Vec<Vec<Item>>,
     pub(crate) image: Vec<u8>,
 }
@@ -42,10 +44,11 @@ impl Model for Kept {
       lambdas = k.lambdas.items;
       deps = call_lists k.deps.items;
       answers = map arc_value k.answers.items;
+      form = k.form;
       image = k.image.items;
     } };
 
-    ghost invariant = { λ k. item_lists k.items.items ≡ items_of (map arc_value k.answers.items) };
+    ghost invariant = { λ k. item_lists k.items.items ≡ items_of k.form (map arc_value k.answers.items) };
 }
 
 /// The lambdas that are kept; none where there was no rebuild.
@@ -80,7 +83,7 @@ pub(crate) fn answers_of(last: &Option<Kept>) -> &[Arc<Optimised>]
 
 /// The items of the functions that are kept.
 pub(crate) fn items_of(last: &Option<Kept>) -> &[Vec<Item>]
-    ensures { item_lists result.now ≡ items_of (answers_of last.now) }
+    ensures { item_lists result.now ≡ kept_items last.now }
 {
     match last {
         Some(kept) => kept.items.as_slice(),

@@ -5,6 +5,10 @@
 //! rebuild.
 #![tactic(auto)]
 
+// What is passed on of the libraries below.
+pub use cc_compile;
+pub use cc_edit;
+
 mod items;
 mod kept;
 mod rebuild;

@@ -19,19 +19,20 @@ use crate::items::items_since;
 use crate::kept::{Kept, answers_of, deps_of, items_of, lambdas_of};
 use board_work::Gate;
 use c_typed::Typed;
+use cc_compile::cc_source_keeps::laws::programs_can_be_emitted;
 use cc_compile::file_of_items;
 use cc_compile::laws::answers_can_be_emitted;
 use cc_edit::AcceptedSource;
-use cc_source_keeps::laws::programs_can_be_emitted;
 use g_build::{BuildFault, build};
 use g_graph::{Lambda, Omega, Optimised};
-use g_pass::Recipe;
 use g_pass_order::laws::{complete_lists_know_calls, orders_are_unique};
 use g_pass_order::{Order, order};
+use g_pass_renew::g_pass::Recipe;
 use g_pass_renew::renewed;
 use g_pass_stale::laws::unstale_answers_are_kept;
 use g_pass_stale::stale;
 use no_memory::NoMemory;
+use s_linear::CodeForm;
 use std::alloc::Global;
 use std::sync::{Arc, Wait};
 use std::thread::Threads;
@@ -144,15 +145,16 @@ pub(crate) fn rebuild_from<H: Threads + Wait + Sync, G: Gate>(
     alloc: Global,
     now: &AcceptedSource,
     recipe: &Recipe,
+    form: CodeForm,
     last: &Option<Kept>,
     workers: u32,
     gate: &G,
 ) -> Result<(Rebuilt, Kept), NoMemory>
-    requires session { IsSession now.now recipe.now last.now }
+    requires session { IsSession now.now recipe.now form last.now }
     requires some_worker { 0 < workers }
     requires few_workers { workers ≤ most_workers }
     ensures { IfOk result (λ it. IsRebuiltFrom
-        now.now recipe.now last.now it.0.image.items it.0.jobs it.1) }
+        now.now recipe.now form last.now it.0.image.items it.0.jobs it.1) }
 {
     programs_can_be_emitted();
     answers_can_be_emitted();
@@ -161,7 +163,7 @@ pub(crate) fn rebuild_from<H: Threads + Wait + Sync, G: Gate>(
     let typed = now.typed();
     let graph = graph_of(alloc, typed)?;
     let made = remake(rt, alloc, &graph.lambdas, recipe, last, workers, gate)?;
-    let items = items_since(alloc, &made.answers, &made.stale, items_of(last))?;
+    let items = items_since(alloc, form, &made.answers, &made.stale, items_of(last))?;
     let image = file_of_items(alloc, &graph, &items)?;
     let source = Vec::from_slice(alloc, now.source())?;
     let own = Vec::from_slice(alloc, &image)?;
@@ -175,6 +177,7 @@ pub(crate) fn rebuild_from<H: Threads + Wait + Sync, G: Gate>(
             lambdas,
             deps: order.deps,
             answers,
+            form,
             items,
             image: own,
         },

@@ -2,30 +2,32 @@
 
 ghost use Rattle.std.specs.Prelude.{◌≡◌, ◌<◌, ◌≤◌, None, Some, IfErr, IfOk, OnErr, OnOk};
 ghost use Rattle.limits.specs.Limits.{most_workers};
-ghost use Rattle.cc_source.specs.Accepted.{Refuses};
+ghost use Rattle.cc_edit.specs.cc_source.Accepted.{Refuses};
 ghost use Rattle.cc_session.specs.Session.{IsAcceptedSource, Replaces, IsReplaceRefused};
 ghost use Rattle.cc_session.specs.Rebuilds.{IsRebuilt};
 
 use crate::kept::{Kept, image_of};
 use crate::rebuild::{Rebuilt, rebuild_again, rebuild_from};
 use board_work::Gate;
+use cc_edit::cc_source::CompileFault;
 use cc_edit::{AcceptedSource, EditFault};
-use cc_source::CompileFault;
-use g_pass::Recipe;
 use g_pass_order::laws::orders_are_unique;
+use g_pass_renew::g_pass::Recipe;
 use no_memory::NoMemory;
+use s_linear::CodeForm;
 use std::alloc::Global;
 use std::marker::Model;
 use std::sync::Wait;
 use std::thread::Threads;
 
 /// A source that is accepted, open for edits and rebuilds under a recipe. Contracts see the source,
-/// the rules of the recipe, and the source of the last rebuild or none.
+/// the rules of the recipe, the form, and the source of the last rebuild or none.
 #[derive(Drop)]
 pub struct Session {
     alloc: Global,
     current: AcceptedSource,
     recipe: Recipe,
+    form: CodeForm,
     last: Option<Kept>,
 }
 
@@ -40,18 +42,24 @@ impl Model for Session {
     ghost view = { λ s. record {
       source = s.current.source;
       recipe = s.recipe;
+      form = s.form;
       last = option_map (λ (k : PlainKept). k.source) s.last;
     } };
 
-    ghost invariant = { λ s. IsSession s.current s.recipe s.last };
+    ghost invariant = { λ s. IsSession s.current s.recipe s.form s.last };
 }
 
 impl Session {
-    /// A session on a source, under a recipe, before any rebuild. The faults are those of
+    /// A session on a source, under a recipe and in a form, before any rebuild. The faults are those of
     /// `accepted_of`: where a phase refuses the source, or memory ran out.
-    pub fn open(alloc: Global, source: Vec<u8>, recipe: Recipe) -> Result<Session, CompileFault>
+    pub fn open(
+        alloc: Global,
+        source: Vec<u8>,
+        recipe: Recipe,
+        form: CodeForm,
+    ) -> Result<Session, CompileFault>
         ensures opened { IfOk result (λ s.
-            s ≡ record { source = source.items; recipe = recipe; last = None }) }
+            s ≡ record { source = source.items; recipe = recipe; form = form; last = None }) }
         ensures accepted { IfOk result (λ _. IsAcceptedSource source.items) }
         ensures refused { IfErr result (λ e. Refuses e source.items) }
     {
@@ -60,6 +68,7 @@ impl Session {
             alloc,
             current,
             recipe,
+            form,
             last: None,
         })
     }
@@ -90,13 +99,13 @@ impl Session {
         }
     }
 
-    /// The image of the source under the recipe, as it is made from nothing, and how many functions
-    /// were stale: those are made anew, by 1 to `MOST_WORKERS` workers, each in a thread of its own
-    /// where one can be made, and of the others the answers are kept. A worker passes the gate for
-    /// each stale function, by its number among them, before it makes it. Where the source is that
-    /// of the last rebuild, the image is a copy of that one's. `NoMemory` only where the allocator
-    /// has none; the session is then as it was. It may wait, and nothing is promised of its
-    /// returning.
+    /// The image of the source under the recipe in the form, as it is made from nothing, and how many
+    /// functions were stale: those are made anew, by 1 to `MOST_WORKERS` workers, each in a thread
+    /// of its own where one can be made, and of the others the answers are kept. A worker passes the
+    /// gate for each stale function, by its number among them, before it makes it. Where the source
+    /// is that of the last rebuild, the image is a copy of that one's. `NoMemory` only where the
+    /// allocator has none; the session is then as it was. It may wait, and nothing is promised of
+    /// its returning.
     pub fn rebuild<H: Threads + Wait + Sync, G: Gate>(
         &mut self,
         rt: &H,
@@ -119,6 +128,7 @@ impl Session {
             self.alloc,
             &self.current,
             &self.recipe,
+            self.form,
             &self.last,
             workers,
             gate,

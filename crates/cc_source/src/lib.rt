@@ -2,6 +2,10 @@
 //! Always: each fault is that of the phase that refuses the source, out of memory apart.
 #![tactic(auto)]
 
+// What is passed on of the libraries below.
+pub use c_check;
+pub use cc_source_laws;
+
 mod fault;
 pub mod laws;
 mod source;

@@ -19,7 +19,8 @@ use Rattle.g_mean.specs.Calls.{program_at, deepest_main}
 use Rattle.g_mean.specs.LessDefined.{Paired, AreBytes, AreNarrow, AreSoundDeltas, IsLessDefinedDatum}
 use Rattle.r_edit.specs.Steps.{MayStandForAll, WithinBothWays, ListsStandForThemselves}
 use Rattle.g_build_keeps.specs.Laws.{ConstructionKeepsPrograms, StartsAsProgram}
-use Rattle.cc_emit_def.specs.Image.{CanEmit, file_of_program}
+use Rattle.s_linear.specs.declared.frame.CodeForm.{CodeForm}
+use Rattle.cc_emit_keeps.specs.cc_emit_def.Image.{CanEmit, file_of_program}
 use Rattle.rv_behaviour_def.specs.Behaviour.{FileKeeps}
 use Rattle.rv_behaviour_def.proofs.lemmas.Nearer.{undefined_is_apart, nearer_is_kept}
 use Rattle.cc_emit_keeps.specs.Images.{frames, ImagesKeepMeaning}
@@ -50,7 +51,7 @@ deltas-sound count (d ∷ ds) h =
 
 -- ---- from the source to the file
 
-module _ (images : ImagesKeepMeaning) (p : ProgramTree) (ls : List PlainLambda) (built : IsProgram (omega p) (graph p)) (starts : StartsAsProgram p (graph p)) (stands : MayStandForAll (graph p) ls)
+module _ (images : ImagesKeepMeaning) (form : CodeForm) (p : ProgramTree) (ls : List PlainLambda) (built : IsProgram (omega p) (graph p)) (starts : StartsAsProgram p (graph p)) (stands : MayStandForAll (graph p) ls)
     (can : CanEmit (omega p) ls) (i : List ℕ) (bytes : AreBytes i) (right : (n : ℕ) → IsUndefined (run n p i) → ⊥) where
   graph-right : (n : ℕ) → IsUndefined (program_at n (omega p) (graph p) i) → ⊥
   graph-right n wrong = let back = (starts i bytes right n).back in undefined_is_apart (λ ys g. ⊥) (program_at n (omega p) (graph p) i) (run back.0 p i) wrong back.1
@@ -63,27 +64,27 @@ module _ (images : ImagesKeepMeaning) (p : ProgramTree) (ls : List PlainLambda) 
       let back = both.back n in
       undefined_is_apart (λ ys xs. Paired IsLessDefinedDatum xs ys) (program_at n (omega p) ls i) (program_at back.0 (omega p) (graph p) i) wrong back.1
 
-  graph-kept : FileKeeps (List Datum) (λ n. program_at n (omega p) (graph p) i) (λ n. deepest_main n (omega p) (graph p) (frames ls) i) (file_of_program (omega p) ls) i
+  graph-kept : FileKeeps (List Datum) (λ n. program_at n (omega p) (graph p) i) (λ n. deepest_main n (omega p) (graph p) (frames form ls) i) (file_of_program form (omega p) ls) i
   graph-kept =
       nearer_is_kept (List Datum) (List Datum) (Paired IsLessDefinedDatum) (λ n. program_at n (omega p) (graph p) i) (λ n. program_at n (omega p) ls i)
-      (λ n. deepest_main n (omega p) (graph p) (frames ls) i) (λ n. deepest_main n (omega p) ls (frames ls) i) (file_of_program (omega p) ls) i
-      (record { forward = both.forward; back = both.back; no_deeper = λ n. let m = both.no_deeper n in (m.0, m.1 _) }) (images (omega p) ls can i bytes right-too)
+      (λ n. deepest_main n (omega p) (graph p) (frames form ls) i) (λ n. deepest_main n (omega p) ls (frames form ls) i) (file_of_program form (omega p) ls) i
+      (record { forward = both.forward; back = both.back; no_deeper = λ n. let m = both.no_deeper n in (m.0, m.1 _) }) (images form (omega p) ls can i bytes right-too)
 
-  kept : FileKeeps (Given (Option Value)) (λ n. run n p i) (λ n. deepest_run n p (frames ls) i) (file_of_program (omega p) ls) i
+  kept : FileKeeps (Given (Option Value)) (λ n. run n p i) (λ n. deepest_run n p (frames form ls) i) (file_of_program form (omega p) ls) i
   kept =
-      nearer_is_kept (Given (Option Value)) (List Datum) (λ g ys. ⊥) (λ n. run n p i) (λ n. program_at n (omega p) (graph p) i) (λ n. deepest_run n p (frames ls) i)
-      (λ n. deepest_main n (omega p) (graph p) (frames ls) i) (file_of_program (omega p) ls) i
+      nearer_is_kept (Given (Option Value)) (List Datum) (λ g ys. ⊥) (λ n. run n p i) (λ n. program_at n (omega p) (graph p) i) (λ n. deepest_run n p (frames form ls) i)
+      (λ n. deepest_main n (omega p) (graph p) (frames form ls) i) (file_of_program form (omega p) ls) i
       (record {
         forward = λ n. (starts i bytes right n).forward;
         back = λ n. (starts i bytes right n).back;
-        no_deeper = λ n. (starts i bytes right n).no_deeper (frames ls);
+        no_deeper = λ n. (starts i bytes right n).no_deeper (frames form ls);
       })
       graph-kept
 
 pub programs_keep_meaning : ConstructionKeepsPrograms → WellTypedAreBuilt → ImagesKeepMeaning → ProgramsKeepMeaning
-programs_keep_meaning construction built images p typed few ls stands can i bytes right =
-    kept images p ls (built p typed) (construction p typed few) stands can i bytes right
+programs_keep_meaning construction built images form p typed few ls stands can i bytes right =
+    kept images form p ls (built p typed) (construction p typed few) stands can i bytes right
 
 pub built_programs_keep_meaning : ProgramsKeepMeaning → WellTypedAreBuilt → SmallAreWithinLimits → ListsStandForThemselves → BuiltProgramsKeepMeaning
-built_programs_keep_meaning keep built small itself p typed few within =
-    keep p typed few (graph p) (itself (graph p)) (record { program = built p typed; limits = small p within })
+built_programs_keep_meaning keep built small itself form p typed few within =
+    keep form p typed few (graph p) (itself (graph p)) (record { program = built p typed; limits = small p within })

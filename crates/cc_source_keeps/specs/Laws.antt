@@ -6,13 +6,14 @@ use Rattle.c_check_def.specs.Limits.{above_limits}
 use Rattle.g_graph.specs.Plain.{PlainLambda}
 use Rattle.g_build_def.specs.Functions.{graph, omega}
 use Rattle.g_build_laws.specs.BuiltLaws.{IsSmall}
-use Rattle.g_build.specs.Passed.{limit_passed}
+use Rattle.cc_source.specs.g_build.Passed.{limit_passed}
 use Rattle.r_edit.specs.Steps.{MayStandForAll}
 use Rattle.g_pass_def.specs.Kept.{IsKeptBy}
 use Rattle.g_build_keeps.specs.Groups.{HasFewGroups}
 use Rattle.g_build_keeps.specs.Laws.{HasMeaning}
-use Rattle.cc_emit_def.specs.Image.{CanEmit, file_of_program}
-use Rattle.cc_source_laws.specs.SourceLaws.{AreBytes}
+use Rattle.s_linear.specs.declared.frame.CodeForm.{CodeForm}
+use Rattle.cc_emit_keeps.specs.cc_emit_def.Image.{CanEmit, file_of_program}
+use Rattle.cc_source.specs.cc_source_laws.SourceLaws.{AreBytes}
 use Rattle.cc_source.specs.Accepted.{Accepts}
 use Rattle.cc_source_keeps.specs.Meaning.{KeepsMeaning}
 
@@ -36,19 +37,19 @@ KeptListsCanBeEmitted =
 -- The image of a program does what the program does, with every list of lambdas that may stand for the built ones.
 abbrev pub ProgramsKeepMeaning : Type 0
 ProgramsKeepMeaning =
-    (p : ProgramTree) → IsWellTyped p → HasFewGroups p → (ls : List PlainLambda) → MayStandForAll (graph p) ls → CanEmit (omega p) ls →
-    KeepsMeaning p ls (file_of_program (omega p) ls)
+    (form : CodeForm) (p : ProgramTree) → IsWellTyped p → HasFewGroups p → (ls : List PlainLambda) → MayStandForAll (graph p) ls → CanEmit (omega p) ls →
+    KeepsMeaning form p ls (file_of_program form (omega p) ls)
 
 -- So it is with the built lambdas of a program within the limits.
 abbrev pub BuiltProgramsKeepMeaning : Type 0
 BuiltProgramsKeepMeaning =
-    (p : ProgramTree) → IsWellTyped p → HasFewGroups p → IsSmall p → KeepsMeaning p (graph p) (file_of_program (omega p) (graph p))
+    (form : CodeForm) (p : ProgramTree) → IsWellTyped p → HasFewGroups p → IsSmall p → KeepsMeaning form p (graph p) (file_of_program form (omega p) (graph p))
 
 -- So it is with every list that keeps the graph of a source that is accepted.
 abbrev pub KeptListsKeepMeaning : Type 0
 KeptListsKeepMeaning =
-    (source : List ℕ) → AreBytes source → (p : ProgramTree) → Accepts source p → (ks : List PlainLambda) → IsKeptBy (graph p) ks →
-    KeepsMeaning p ks (file_of_program (omega p) ks)
+    (form : CodeForm) (source : List ℕ) → AreBytes source → (p : ProgramTree) → Accepts source p → (ks : List PlainLambda) → IsKeptBy (graph p) ks →
+    KeepsMeaning form p ks (file_of_program form (omega p) ks)
 
 -- Such a list has the meaning of the program call for call too.
 abbrev pub KeptListsHaveMeaning : Type 0

@@ -44,8 +44,8 @@ pub fn kept_lists_keep_meaning()
 {
     programs_keep_meaning();
     programs_can_be_emitted();
-    cc_source_laws::laws::checked_are_well_typed();
-    cc_source_laws::laws::checked_have_few_groups();
+    cc_source::cc_source_laws::laws::checked_are_well_typed();
+    cc_source::cc_source_laws::laws::checked_have_few_groups();
 }
 
 /// Every list that keeps the graph of the program of such a source has its meaning too: of each
@@ -55,8 +55,8 @@ pub fn kept_lists_keep_meaning()
 pub fn kept_lists_have_meaning()
     ensures { KeptListsHaveMeaning }
 {
-    cc_source_laws::laws::accepted_keep_meaning();
-    cc_source_laws::laws::checked_are_well_typed();
+    cc_source::cc_source_laws::laws::accepted_keep_meaning();
+    cc_source::cc_source_laws::laws::checked_are_well_typed();
     g_build_laws::laws::well_typed_are_built();
     r_edit::steps::lists_compose();
 }

@@ -4,4 +4,7 @@
 //! for call, and its image does what the source does. Nothing in it runs, and it takes no memory.
 #![tactic(auto)]
 
+// What is passed on of the libraries below.
+pub use cc_source;
+
 pub mod laws;

@@ -73,11 +73,11 @@ same-executable file e f p q = cc
 
 pub suffices : StacksAreBounded → ImagesKeepMeaning → (p : ProgramTree) (ls : List PlainLambda) → IsProgram (omega p) (graph p) → StartsAsProgram p (graph p) →
     MayStandForAll (graph p) ls → CanEmit (omega p) ls → Suffices p ls
-suffices bounded images p ls built starts stands can room i bytes right e loads n out =
-    let keeps = images (omega p) ls can i bytes (right-too p ls built starts stands i bytes right) in
-    let same = same-executable (file_of_program (omega p) ls) e keeps.executable loads keeps.loads in
+suffices bounded images p ls built starts stands can form room i bytes right e loads n out =
+    let keeps = images form (omega p) ls can i bytes (right-too p ls built starts stands i bytes right) in
+    let same = same-executable (file_of_program form (omega p) ls) e keeps.executable loads keeps.loads in
     let exceeds = keeps.runs.exceeds n (subst (λ x. (executed n x i).hart ≡ ended stack) (sym same) out) in
-    let deep : deepest_main exceeds.0 (omega p) ls (frames ls) i ≤ room.depth =
-    bounded ls (frames ls) room.depths room.are (omega p) room.main room.depth room.named room.known exceeds.0 i in
-    let more : stack_size < deepest_main exceeds.0 (omega p) ls (frames ls) i = exceeds.1 in
-    none-between (deepest_main exceeds.0 (omega p) ls (frames ls) i) room.depth deep more room.fits
+    let deep : deepest_main exceeds.0 (omega p) ls (frames form ls) i ≤ room.depth =
+    bounded ls (frames form ls) room.depths room.are (omega p) room.main room.depth room.named room.known exceeds.0 i in
+    let more : stack_size < deepest_main exceeds.0 (omega p) ls (frames form ls) i = exceeds.1 in
+    none-between (deepest_main exceeds.0 (omega p) ls (frames form ls) i) room.depth deep more room.fits

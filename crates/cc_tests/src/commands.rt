@@ -38,7 +38,8 @@ pub struct Handed {
     pub gate: Turnstile,
 }
 
-fn arguments_of(alloc: Global, words: &str) -> Result<Vec<String>, NoMemory> {
+/// The arguments that these words are.
+pub fn arguments_of(alloc: Global, words: &str) -> Result<Vec<String>, NoMemory> {
     let mut arguments = Vec::new(alloc);
     if words.is_empty() {
         return Ok(arguments);

@@ -7,18 +7,25 @@
 //! Each other line is a call (`try_row`, `commands`, `texts`, `outside`, `calls`). A row fails
 //! where what its calls say is not what is wanted of it. In a text `%` and two hexadecimal digits
 //! are a byte.
+//!
+//! From a line `part streams` to a line `part rows` each line is a row by itself, and what it says
+//! is printed (`streams`), which `stdout` has.
 #![tactic(auto)]
 
 mod calls;
 mod commands;
 mod outside;
 mod row;
+mod stream_bytes;
+mod stream_calls;
+mod streams;
 mod texts;
 mod watching;
 
 use crate::calls::call;
 use crate::commands::{handed_of, say_end};
 use crate::row::{Row, split};
+use crate::streams::{put_files, say_stream};
 use crate::texts::{say_texts, tell_row};
 use crate::watching::watching_of;
 use cc_top::top;
@@ -127,14 +134,38 @@ fn take<H: Threads + Wait + Sync>(
     Ok(counts)
 }
 
+// Prints what a row of the part `streams` says, over these files.
+fn print_stream<H: Threads + Wait + Sync>(
+    host: &HostRuntime,
+    workers: &H,
+    held: &Row,
+    row: &str,
+) -> io::Result<()> {
+    let mut said = String::new(host.alloc());
+    match say_stream(workers, &mut said, held, row) {
+        Ok(()) => print!(host; "{}", said.as_str()),
+        Err(NoMemory) => println!(host; "out of memory"),
+    }
+}
+
 // Tries the rows of the table.
 fn try_all<H: Threads + Wait + Sync>(host: &HostRuntime, workers: &H) -> io::Result<Counts> {
     let alloc = host.alloc();
     let mut counts = Counts { rows: 0, failed: 0 };
     let mut row = Row::new(alloc);
     let mut lines: Vec<String> = Vec::new(alloc);
+    let mut held = Row::new(alloc);
+    if put_files(workers, &mut held).is_err() {
+        println!(host; "out of memory")?;
+    }
+    let mut is_stream = false;
     for line in host.lines(alloc) {
-        counts = take(host, workers, &mut row, &mut lines, counts, line?)?;
+        let line = line?;
+        match line.as_str().strip_prefix("part ") {
+            Some(part) => is_stream = part == "streams",
+            None if is_stream => print_stream(host, workers, &held, line.as_str())?,
+            None => counts = take(host, workers, &mut row, &mut lines, counts, line)?,
+        }
     }
     judge(host, workers, &mut row, &lines, counts)
 }

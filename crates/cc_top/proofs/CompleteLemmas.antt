@@ -1,9 +1,10 @@
 -- A command that has what it asks for, and none of whose calls failed, is done, from how it ends.
 use Rattle.std.proofs.Common.{◌≡◌, ◌⊎◌, ℕ, List, Option, Some, None, Ok, Err, refl, sym, ap, ◌∙◌, inl, inr, subst}
 use Rattle.std.specs.Option.{ForSome}
+use Rattle.s_linear.specs.declared.frame.CodeForm.{CodeForm}
 use Rattle.c_typed.specs.Typed.{ProgramTree}
 use Rattle.cc_command.specs.Command.{Command, accept, build, run, generate, check, session, interpret}
-use Rattle.cc_source.specs.Accepted.{Accepts}
+use Rattle.cc_interpret.specs.cc_source.Accepted.{Accepts}
 use Rattle.cc_io.specs.Faults.{Increased}
 use Rattle.cc_io.specs.Files.{Name, content}
 use Rattle.cc_watch.specs.Rows.{PlainRow}
@@ -12,7 +13,7 @@ use Rattle.elf_file.specs.declared.fault.ElfFault.{ElfFault}
 use Rattle.cc_build.specs.AcceptEnds.{AcceptCause}
 use Rattle.cc_build.specs.BuildEnds.{BuildEnds}
 use Rattle.cc_outside.specs.Outside.{IfKnown, ReadFails, WriteFails, FilesSeen, Outside, StreamSeen}
-use Rattle.log_judge.specs.Judgement.{Certifies}
+use Rattle.cc_certify.specs.log_judge.Judgement.{Certifies}
 use Rattle.cc_compile_laws.specs.Laws.{LogsCertifyImages}
 use Rattle.cc_certify.specs.CheckEnds.{CertifiedIsTold, CheckEnds}
 use Rattle.cc_interpret.specs.InterpretEnds.{InterpretCause}
@@ -21,7 +22,7 @@ use Rattle.cc_top.specs.Completes.{CheckCompletes, Completes, IsDone, Works}
 use Rattle.cc_top.specs.Ends.{Ends}
 use Rattle.cc_run.specs.GenerateEnds.{GenerateEnds}
 use Rattle.cc_report.specs.Outcome.{status_of}
-use Rattle.cc_refusal.specs.Refused.{AcceptedIsNotRefused}
+use Rattle.cc_interpret.specs.cc_refusal.Refused.{AcceptedIsNotRefused}
 use Rattle.cc_report.specs.Report.{IsReported}
 use Rattle.cc_run.specs.RunEnds.{RunEnds}
 use Rattle.cc_report.specs.declared.outcome.Outcome.{Outcome}
@@ -38,15 +39,15 @@ status-is ended said status held held' faults faults' (inr cut) works = absurd (
 
 module _ (law : AcceptedIsNotRefused) where
   module _ {W : Type 0} (named : W → List ℕ) (stands_for : W → List PlainRow → Type 0) (text_of : W → List PlainRow → List ℕ) where
-    build-done : (recipe : _) (name : Option (List ℕ)) (source image : Name) (ended : Outcome) (said : List ℕ) (before after : FilesSeen) (ws ws' : List W) →
-        BuildEnds named stands_for text_of recipe name source image ended said before after ws ws' → (ReadFails source before after → ⊥) → (WriteFails image before after → ⊥) →
+    build-done : (recipe : _) (form : CodeForm) (name : Option (List ℕ)) (source image : Name) (ended : Outcome) (said : List ℕ) (before after : FilesSeen) (ws ws' : List W) →
+        BuildEnds named stands_for text_of recipe form name source image ended said before after ws ws' → (ReadFails source before after → ⊥) → (WriteFails image before after → ⊥) →
         IfKnown source before (λ text. (p : ProgramTree) → Accepts text p → IsDone (status_of ended))
-    build-done recipe name source image Done said before after ws ws' h reads writes = λ files is p a. inl refl
-    build-done recipe name source image NoMemory said before after ws ws' h reads writes = λ files is p a. inr refl
-    build-done recipe name source image ReadFault said before after ws ws' h reads writes = absurd (reads h.0)
-    build-done recipe name source image WriteFault said before after ws ws' h reads writes = absurd (writes h.3.0)
-    build-done recipe name source image (Refused refusal) said before after ws ws' h reads writes = λ files is p a. absurd (law (content source files) p refusal a (h.0 files is))
-    build-done recipe name source image _ said before after ws ws' h reads writes = absurd h
+    build-done recipe form name source image Done said before after ws ws' h reads writes = λ files is p a. inl refl
+    build-done recipe form name source image NoMemory said before after ws ws' h reads writes = λ files is p a. inr refl
+    build-done recipe form name source image ReadFault said before after ws ws' h reads writes = absurd (reads h.0)
+    build-done recipe form name source image WriteFault said before after ws ws' h reads writes = absurd (writes h.3.0)
+    build-done recipe form name source image (Refused refusal) said before after ws ws' h reads writes = λ files is p a. absurd (law (content source files) p refusal a (h.0 files is))
+    build-done recipe form name source image _ said before after ws ws' h reads writes = absurd h
 
   accept-done : (ended : Outcome) (input input' output output' : StreamSeen) → AcceptCause ended input input' output output' → Works input input' → Works output output'
       → ForSome input.bytes (λ text. (p : ProgramTree) → Accepts text p → IsDone (status_of ended))
@@ -57,25 +58,25 @@ module _ (law : AcceptedIsNotRefused) where
   accept-done (Refused refusal) input input' output output' h reads writes = λ text is p a. absurd (law text p refusal a (h.0 text is))
   accept-done _ input input' output output' h reads writes = absurd h
 
-  session-done : (recipe : _) (source image : Name) (ended : Outcome) (before after : Outside) → SessionEnds recipe source image ended before after
+  session-done : (recipe : _) (form : CodeForm) (source image : Name) (ended : Outcome) (before after : Outside) → SessionEnds recipe form source image ended before after
       → (ReadFails source before.files after.files → ⊥)
       → (WriteFails image before.files after.files → ⊥)
       → Works before.input after.input
       → Works before.output after.output
       → IfKnown source before.files (λ text. (p : ProgramTree) → Accepts text p → IsDone (status_of ended) ⊎ (status_of ended ≡ 9))
-  session-done recipe source image Done before after h reads writes input output = λ files is p a. inl (inl refl)
-  session-done recipe source image NoMemory before after h reads writes input output = λ files is p a. inl (inr refl)
-  session-done recipe source image (Script number) before after h reads writes input output = λ files is p a. inr refl
-  session-done recipe source image (Refused refusal) before after h reads writes input output = λ files is p a. absurd (law (content source files) p refusal a (h.0 files is))
-  session-done recipe source image ReadFault before after h reads writes input output = elim h [
+  session-done recipe form source image Done before after h reads writes input output = λ files is p a. inl (inl refl)
+  session-done recipe form source image NoMemory before after h reads writes input output = λ files is p a. inl (inr refl)
+  session-done recipe form source image (Script number) before after h reads writes input output = λ files is p a. inr refl
+  session-done recipe form source image (Refused refusal) before after h reads writes input output = λ files is p a. absurd (law (content source files) p refusal a (h.0 files is))
+  session-done recipe form source image ReadFault before after h reads writes input output = elim h [
     | inl unread ↦ absurd (reads unread.0)
     | inr broken ↦ absurd (input broken.so.fails)
   ]
-  session-done recipe source image WriteFault before after h reads writes input output = elim h.so [
+  session-done recipe form source image WriteFault before after h reads writes input output = elim h.so [
     | inl unsaved ↦ absurd (writes unsaved.fails)
     | inr unsaid ↦ absurd (output unsaid.fails)
   ]
-  session-done recipe source image _ before after h reads writes input output = absurd h
+  session-done recipe form source image _ before after h reads writes input output = absurd h
 
   interpret-done : (source : Name) (bound : ℕ) (ended : Outcome) (before after : Outside) → InterpretCause source bound ended before after
       → (ReadFails source before.files after.files → ⊥)
@@ -122,23 +123,23 @@ run-done image steps ReadFault before after h reads input output = elim h.cause 
 run-done image steps WriteFault before after h reads input output = absurd (output h.cause)
 run-done image steps _ before after h reads input output = absurd h.cause
 
-certified-done : CertifiedIsTold → (source log image : Name) (ended : Outcome) (before after : FilesSeen) → CheckEnds source log image ended before after
+certified-done : CertifiedIsTold → (source log image : Name) (form : CodeForm) (ended : Outcome) (before after : FilesSeen) → CheckEnds source log image form ended before after
     → (ReadFails source before after → ⊥) → (ReadFails log before after → ⊥) → (ReadFails image before after → ⊥)
-    → ForSome before.known (λ files. Certifies (content source files) (content log files) (content image files) → IsDone (status_of ended))
-certified-done told source log image ended before after ends a b d files is certifies =
-    elim (told source log image ended before after ends a b d files is certifies) [
+    → ForSome before.known (λ files. Certifies (content source files) form (content log files) (content image files) → IsDone (status_of ended))
+certified-done told source log image form ended before after ends a b d files is certifies =
+    elim (told source log image form ended before after ends a b d files is certifies) [
       | inl certified ↦ inl (ap status_of certified)
       | inr memory ↦ inr (ap status_of memory)
     ]
 
-check-done : CertifiedIsTold → LogsCertifyImages → (source log image : Name) (ended : Outcome) (before after : FilesSeen) → CheckEnds source log image ended before after
-    → CheckCompletes source log image (status_of ended) before after
-check-done told certify source log image ended before after ends = record {
-  certified = certified-done told source log image ended before after ends;
+check-done : CertifiedIsTold → LogsCertifyImages → (source log image : Name) (form : CodeForm) (ended : Outcome) (before after : FilesSeen) → CheckEnds source log image form ended before after
+    → CheckCompletes source log image form (status_of ended) before after
+check-done told certify source log image form ended before after ends = record {
+  certified = certified-done told source log image form ended before after ends;
   built = λ a b d files is bytes p accepted recipe short rows compiled log_is.
-      certified-done told source log image ended before after ends a b d files is
-      (subst (λ l. Certifies (content source files) l (content image files)) (sym log_is)
-      (certify (content source files) bytes p accepted recipe short (content image files) rows compiled));
+      certified-done told source log image form ended before after ends a b d files is
+      (subst (λ l. Certifies (content source files) form l (content image files)) (sym log_is)
+      (certify (content source files) bytes p accepted recipe short form (content image files) rows compiled));
 }
 
 -- ---- the command
@@ -148,13 +149,13 @@ module _ (law : AcceptedIsNotRefused) (told : CertifiedIsTold) (certify : LogsCe
       → Completes named c (status_of ended) before after ws
   ended-completes None ended said before after ws ws' h = tt
   ended-completes (Some accept) ended said before after ws ws' h = accept-done law ended before.input after.input before.output after.output h.0.cause
-  ended-completes (Some (build source image list workers name)) ended said before after ws ws' h = λ recipe is some.
-      build-done law named stands_for text_of recipe name source image ended said before.files after.files ws ws' (h.0.build recipe is some)
+  ended-completes (Some (build source image list workers name form)) ended said before after ws ws' h = λ recipe is some.
+      build-done law named stands_for text_of recipe form name source image ended said before.files after.files ws ws' (h.0.build recipe is some)
   ended-completes (Some (generate start functions out)) ended said before after ws ws' h = generate-done start functions out ended before.files after.files h.0
   ended-completes (Some (run image steps)) ended said before after ws ws' h = run-done image steps ended before after h.0
-  ended-completes (Some (check source log image)) ended said before after ws ws' h = check-done told certify source log image ended before.files after.files h.0
-  ended-completes (Some (session source image list workers)) ended said before after ws ws' h = λ recipe is.
-      session-done law recipe source image ended before after (h.0.session recipe is)
+  ended-completes (Some (check source log image form)) ended said before after ws ws' h = check-done told certify source log image form ended before.files after.files h.0
+  ended-completes (Some (session source image list workers form)) ended said before after ws ws' h = λ recipe is.
+      session-done law recipe form source image ended before after (h.0.session recipe is)
   ended-completes (Some (interpret source bound)) ended said before after ws ws' h = interpret-done law source bound ended before after h.0.cause
 
   pub completes : (c : Option Command) (ended : Outcome) (said : List ℕ) (before after : Outside) (ws ws' : List W) → Ends named stands_for text_of c ended said before after ws ws'

@@ -3,19 +3,20 @@ use Rattle.std.specs.Prelude.{◌≡◌, ◌≤◌, ◌⊎◌, ℕ, true, List, 
 use Rattle.std.specs.Option.{ForSome}
 use Rattle.limits.specs.Limits.{most_sweeps}
 use Rattle.g_graph.specs.declared.steps.Rule.{Rule}
+use Rattle.s_linear.specs.declared.frame.CodeForm.{CodeForm}
 use Rattle.c_typed.specs.Typed.{ProgramTree}
 use Rattle.elf_file.specs.Loading.{Executable, loaded}
 use Rattle.cc_command.specs.Command.{Command, accept, build, run, generate, check, session, interpret}
 use Rattle.cc_watch.specs.Rows.{PlainRow}
 use Rattle.cc_watch.specs.Texts.{log_text}
 use Rattle.cc_source_laws.specs.SourceLaws.{AreBytes}
-use Rattle.cc_source.specs.Accepted.{Accepts}
-use Rattle.cc_compile.specs.Compiled.{IsCompiledUnder}
-use Rattle.cc_compile.specs.RecipeText.{IsTextOf}
+use Rattle.cc_interpret.specs.cc_source.Accepted.{Accepts}
+use Rattle.cc_build.specs.cc_compile.Compiled.{IsCompiledUnder}
+use Rattle.cc_build.specs.cc_compile.RecipeText.{IsTextOf}
 use Rattle.cc_io.specs.Faults.{Increased}
 use Rattle.cc_io.specs.Files.{Name, content}
 use Rattle.cc_outside.specs.Outside.{IfKnown, ReadFails, WriteFails, FilesSeen, Outside, StreamSeen}
-use Rattle.log_judge.specs.Judgement.{Certifies}
+use Rattle.cc_certify.specs.log_judge.Judgement.{Certifies}
 use Rattle.cc_build.specs.Watchers.{has_reporter}
 
 -- The status is 0, or that of memory that ran out.
@@ -48,15 +49,15 @@ AcceptCompletes status input input' output output' =
     Works input input' → Works output output' → ForSome input.bytes (λ text. (p : ProgramTree) → Accepts text p → IsDone status)
 
 -- a check of known files: the log certifies the image; or log and image are those of a build of the source, which holds bytes, under any recipe
-pub record CheckCompletes (source log image : Name) (status : ℕ) (before after : FilesSeen) : Type 0 where
+pub record CheckCompletes (source log image : Name) (form : CodeForm) (status : ℕ) (before after : FilesSeen) : Type 0 where
   pub certified :
       (ReadFails source before after → ⊥) → (ReadFails log before after → ⊥) → (ReadFails image before after → ⊥) →
-      ForSome before.known (λ files. Certifies (content source files) (content log files) (content image files) → IsDone status)
+      ForSome before.known (λ files. Certifies (content source files) form (content log files) (content image files) → IsDone status)
   pub built :
       (ReadFails source before after → ⊥) → (ReadFails log before after → ⊥) → (ReadFails image before after → ⊥) →
       ForSome before.known (λ files.
       AreBytes (content source files) → (p : ProgramTree) → Accepts (content source files) p → (recipe : List Rule) → length recipe ≤ most_sweeps →
-      (rows : List PlainRow) → IsCompiledUnder recipe p (content image files) rows → content log files ≡ log_text rows → IsDone status)
+      (rows : List PlainRow) → IsCompiledUnder recipe form p (content image files) rows → content log files ≡ log_text rows → IsDone status)
 
 -- a session under a recipe on a known source that is accepted, which ends with 9 too
 abbrev pub SessionCompletes : (list : List ℕ) (source image : Name) (status : ℕ) (before after : Outside) → Type 0
@@ -74,10 +75,10 @@ InterpretCompletes source status before after =
 abbrev pub Completes : {W : Type 0} (named : W → List ℕ) → Option Command → (status : ℕ) → (before after : Outside) → List W → Type 0
 Completes named None status before after ws = Unit {0}
 Completes named (Some accept) status before after ws = AcceptCompletes status before.input after.input before.output after.output
-Completes named (Some (build source image list workers name)) status before after ws =
+Completes named (Some (build source image list workers name form)) status before after ws =
     BuildCompletes named list name source image status before.files after.files ws
 Completes named (Some (generate start functions out)) status before after ws = GenerateCompletes out status before.files after.files
 Completes named (Some (run image steps)) status before after ws = RunCompletes image status before after
-Completes named (Some (check source log image)) status before after ws = CheckCompletes source log image status before.files after.files
-Completes named (Some (session source image list workers)) status before after ws = SessionCompletes list source image status before after
+Completes named (Some (check source log image form)) status before after ws = CheckCompletes source log image form status before.files after.files
+Completes named (Some (session source image list workers form)) status before after ws = SessionCompletes list source image status before after
 Completes named (Some (interpret source bound)) status before after ws = InterpretCompletes source status before after

@@ -25,13 +25,13 @@ module _ {W : Type 0} (named : W → List ℕ) (stands_for : W → List PlainRow
   Ends None ended said before after ws ws' = EndsUnread ended before after × (said ≡ line_of ended) × (ws' ≡ ws)
   Ends (Some accept) ended said before after ws ws' =
       AcceptEnds ended before.input after.input before.output after.output × (after.files ≡ before.files) × (said ≡ line_of ended) × (ws' ≡ ws)
-  Ends (Some (build source image list workers name)) ended said before after ws ws' =
-      BuildEndsUnder named stands_for text_of list name source image ended said before.files after.files ws ws' × KeepsStreams before after
+  Ends (Some (build source image list workers name form)) ended said before after ws ws' =
+      BuildEndsUnder named stands_for text_of list form name source image ended said before.files after.files ws ws' × KeepsStreams before after
   Ends (Some (generate start functions out)) ended said before after ws ws' =
       GenerateEnds start functions out ended before.files after.files × KeepsStreams before after × (said ≡ line_of ended) × (ws' ≡ ws)
   Ends (Some (run image steps)) ended said before after ws ws' = RunEnds image steps ended before after × (said ≡ line_of ended) × (ws' ≡ ws)
-  Ends (Some (check source log image)) ended said before after ws ws' =
-      CheckEnds source log image ended before.files after.files × KeepsStreams before after × (said ≡ line_of ended) × (ws' ≡ ws)
-  Ends (Some (session source image list workers)) ended said before after ws ws' =
-      SessionEndsUnder list source image ended before after × (said ≡ line_of ended) × (ws' ≡ ws)
+  Ends (Some (check source log image form)) ended said before after ws ws' =
+      CheckEnds source log image form ended before.files after.files × KeepsStreams before after × (said ≡ line_of ended) × (ws' ≡ ws)
+  Ends (Some (session source image list workers form)) ended said before after ws ws' =
+      SessionEndsUnder list form source image ended before after × (said ≡ line_of ended) × (ws' ≡ ws)
   Ends (Some (interpret source bound)) ended said before after ws ws' = InterpretEnds source bound ended before after × (said ≡ line_of ended) × (ws' ≡ ws)

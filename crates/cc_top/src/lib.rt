@@ -122,7 +122,7 @@ pub fn top<H: Threads + Wait + Sync, F: Files, I: Source, O: Sink, E: Sink, G: G
         (seen files.old input.old output.old) (seen files.new input.new output.new)
         watchers.old.items }
 {
-    cc_refusal::laws::accepted_sources_are_not_refused();
+    cc_interpret::cc_refusal::laws::accepted_sources_are_not_refused();
     cc_certify::laws::certified_is_told();
     cc_compile_laws::laws::logs_certify_images();
     let ending = carry_out(rt, alloc, words, files, input, output, gate, watchers);
@@ -160,8 +160,9 @@ fn carry_out<H: Threads + Wait + Sync, F: Files, I: Source, O: Sink, G: Gate>(
             recipe,
             workers,
             report,
+            form,
         } => build::build(
-            rt, alloc, files, source, image, recipe, workers, report, gate, watchers,
+            rt, alloc, files, source, image, recipe, form, workers, report, gate, watchers,
         ),
         Command::Run { image, steps } => {
             Ending::Line(run::run(alloc, files, input, output, image, steps))
@@ -171,16 +172,20 @@ fn carry_out<H: Threads + Wait + Sync, F: Files, I: Source, O: Sink, G: Gate>(
             functions,
             out,
         } => Ending::Line(generated::write_generated(files, start, functions, out)),
-        Command::Check { source, log, image } => {
-            Ending::Line(check(alloc, files, source, log, image))
-        }
+        Command::Check {
+            source,
+            log,
+            image,
+            form,
+        } => Ending::Line(check(alloc, files, source, log, image, form)),
         Command::Session {
             source,
             image,
             recipe,
             workers,
+            form,
         } => Ending::Line(session(
-            rt, alloc, files, input, output, source, image, recipe, workers, gate,
+            rt, alloc, files, input, output, source, image, recipe, form, workers, gate,
         )),
         Command::Interpret { source, bound } => {
             Ending::Line(interpret(alloc, files, input, output, source, bound))

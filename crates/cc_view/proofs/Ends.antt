@@ -12,8 +12,8 @@ use Rattle.cc_outside.specs.Outside.{FilesSeen, StreamSeen, ReadFails}
 use Rattle.cc_report.specs.Outcome.{text_of}
 use Rattle.cc_report.specs.declared.outcome.Outcome.{Outcome}
 use Rattle.cc_report.specs.declared.outcome.Outcome.TheVariants.{Done, Usage, ReadFault, WriteFault, Refused, BadImage, NoMemory, Exit, Stack, Budget, Stuck, Undefined, Cut, Certified, NotCertified, Script}
-use Rattle.g_pass.specs.Recipe.{OneRecipe}
-use Rattle.cc_compile.specs.RecipeText.{IsTextOf}
+use Rattle.cc_view_steps.specs.g_pass.Recipe.{OneRecipe}
+use Rattle.cc_view_steps.specs.cc_compile.RecipeText.{IsTextOf}
 use Rattle.cc_view_command.specs.Command.{Command, graph, steps, listing, explain}
 use Rattle.cc_view.specs.ViewEnds.{list_of, said_of, source_of, CommandShows, IsWritten, ShownCause, ViewEnds, ViewEndsUnder, WasShown}
 

@@ -6,7 +6,7 @@ use Rattle.g_graph.specs.declared.steps.Rule.{Rule}
 use Rattle.cc_io.specs.Faults.{Increased}
 use Rattle.cc_io.specs.Files.{Name, FileSet, content}
 use Rattle.cc_io.specs.Sink.{append}
-use Rattle.cc_compile.specs.RecipeText.{IsTextOf}
+use Rattle.cc_view_steps.specs.cc_compile.RecipeText.{IsTextOf}
 use Rattle.cc_view_command.specs.Command.{Command, graph, steps, listing, explain}
 use Rattle.cc_view.specs.Shown.{GraphShows, StepsShow, ListingShows, ExplainShows}
 use Rattle.cc_outside.specs.Outside.{FilesSeen, StreamSeen, ReadFails, Unchanged}

@@ -15,13 +15,13 @@ ghost use Rattle.cc_view.specs.ViewEnds.{list_of, said_of, source_of, CommandSho
 
 use crate::shown::{Shown, show};
 use crate::telling::tell_ended;
-use cc_compile::recipe_of;
 use cc_io::{Files, Sink, write_all};
 use cc_outside::load::{LoadError, load};
 use cc_report::Outcome;
 use cc_view_command::{Command, parse_command};
-use g_pass::Recipe;
-use g_pass::laws::texts_have_one_recipe;
+use cc_view_steps::cc_compile::recipe_of;
+use cc_view_steps::g_pass::Recipe;
+use cc_view_steps::g_pass::laws::texts_have_one_recipe;
 use limits::MOST_SOURCE_BYTES;
 use std::alloc::Global;
 

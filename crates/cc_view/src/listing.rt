@@ -7,8 +7,9 @@ ghost use Rattle.cc_listing.specs.Lines.{IsListing};
 
 use cc_emit::emit;
 use cc_listing::listing;
-use cc_view_source::{Made, names_at};
+use cc_view_steps::cc_view_source::{Made, names_at};
 use no_memory::NoMemory;
+use s_linear::CodeForm;
 use std::alloc::Global;
 
 /// The listing of the image of what is made of a source. `NoMemory` only where the allocator has
@@ -19,7 +20,7 @@ pub fn listing_of(alloc: Global, source: &[u8], made: &Made) -> Result<Vec<u8>, 
         (lambdas_of (map arc_value made.now.answers.items)) text.items) }
 {
     let names = names_at(alloc, source, &made.globals)?;
-    let image = emit(alloc, &made.answers, &made.omega)?;
+    let image = emit(alloc, CodeForm::Plain, &made.answers, &made.omega)?;
     let text = listing(alloc, &image, &made.omega, &made.answers, &names);
     drop(image);
     text

@@ -3,7 +3,7 @@ use Rattle.std.specs.Prelude.{ℕ, ◌&&◌, List, [], ◌∷◌, Option, Some, 
 use Rattle.std.specs.Str.{bytes_eq}
 use Rattle.cc_command.specs.ParsedArguments.{Text}
 use Rattle.cc_command.specs.Command.{read_text, read_number, recipe_option}
-use Rattle.cc_command.specs.Forms.{◌>>=◌, Form, OptionForm, Positional, Value, text, number, absent, command_among}
+use Rattle.cc_command.specs.Forms.{◌>>=◌, Form, OptionForm, Positional, Value, text, number, code, absent, command_among}
 use Rattle.cc_view_command.specs.declared.arguments.Drawing.{Drawing}
 use Rattle.cc_view_command.specs.declared.arguments.Drawing.TheVariants.{Dot, Rows}
 
@@ -25,12 +25,14 @@ abbrev pub optional_text : Value → Option (Option Text)
 optional_text (text t) = Some (Some t)
 optional_text absent = Some None
 optional_text (number n) = None
+optional_text (code form) = None
 
 -- a number that may be left out
 abbrev pub optional_number : Value → Option (Option ℕ)
 optional_number (number n) = Some (Some n)
 optional_number absent = Some None
 optional_number (text t) = None
+optional_number (code form) = None
 
 abbrev pub drawing_named : Text → Option Drawing
 drawing_named t = if bytes_eq t (codes "dot") then Some Dot else (if bytes_eq t (codes "rows") then Some Rows else None)

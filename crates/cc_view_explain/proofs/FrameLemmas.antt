@@ -6,11 +6,12 @@ use Rattle.std.specs.Prelude.{slice_get}
 use Rattle.g_graph.specs.Plain.{PlainLambda, PlainObject, PlainOptimised}
 use Rattle.s_linear.specs.Frame.{PlainPlaces, frame_size}
 use Rattle.s_linear.specs.Lines.{Line}
+use Rattle.s_linear.specs.declared.frame.CodeForm.TheVariants.{Plain}
 use Rattle.a_place.specs.Places.{places}
 use Rattle.cc_emit_def.specs.Image.{frame_of, lambdas_of, lines_of}
 
 -- the size of the frame of a lambda, by its lines, their places and its objects
-pub frame-is : (l : PlainLambda) (ls : List Line) (p : PlainPlaces) (os : List PlainObject) → ls ≡ lines_of l → p ≡ places ls → os ≡ l.objects → frame_size p.count os ≡ frame_of l
+pub frame-is : (l : PlainLambda) (ls : List Line) (p : PlainPlaces) (os : List PlainObject) → ls ≡ lines_of l → p ≡ places ls → os ≡ l.objects → frame_size p.count os ≡ frame_of Plain l
 frame-is l ls p os is placed are =
     ap (λ (q : PlainPlaces). frame_size q.count os) (placed ∙ ap places is) ∙ ap (λ o. frame_size (places (lines_of l)).count o) are
 
@@ -27,5 +28,5 @@ module _ {X : Type 0} (read : X → PlainOptimised) where
     pub lambdas-more : lambdas_of (map read (take (i + 1) xs)) ≡ lambdas_of (map read (take i xs)) ++ (read a).lambda ∷ []
     lambdas-more = ap (λ ys. lambdas_of (map read ys)) (take_more xs i a within ∙ ap (λ x. take i xs ++ x ∷ []) (sym is)) ∙ lambdas-append (take i xs) (a ∷ [])
 
-    pub frames-more : map frame_of (lambdas_of (map read (take (i + 1) xs))) ≡ map frame_of (lambdas_of (map read (take i xs))) ++ frame_of (read a).lambda ∷ []
-    frames-more = ap (map frame_of) lambdas-more ∙ map-append frame_of (lambdas_of (map read (take i xs))) ((read a).lambda ∷ [])
+    pub frames-more : map (frame_of Plain) (lambdas_of (map read (take (i + 1) xs))) ≡ map (frame_of Plain) (lambdas_of (map read (take i xs))) ++ frame_of Plain (read a).lambda ∷ []
+    frames-more = ap (map (frame_of Plain)) lambdas-more ∙ map-append (frame_of Plain) (lambdas_of (map read (take i xs))) ((read a).lambda ∷ [])

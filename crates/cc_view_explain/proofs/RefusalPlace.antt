@@ -2,10 +2,10 @@
 use Rattle.std.proofs.Common.{◌≡◌, ℕ, List, None, Some, ap, ◌∙◌, length, option_map}
 use Rattle.std.specs.Prelude.{min}
 use Rattle.cc_explain.specs.Explained.{refusal_text}
-use Rattle.cc_refusal.specs.Refusal.{refusal_of}
+use Rattle.cc_refusal_offset.specs.cc_refusal.Refusal.{refusal_of}
 use Rattle.cc_refusal_offset.specs.Offset.{LinesAreOfOffsets, offset_of}
 use Rattle.cc_report.specs.declared.refusal.Refusal.{Refusal}
-use Rattle.cc_source.specs.declared.fault.CompileFault.{CompileFault}
+use Rattle.cc_refusal_offset.specs.cc_source.declared.fault.CompileFault.{CompileFault}
 use Rattle.cc_view_explain.specs.Explanation.{IsRefusalText}
 
 module _ (law : LinesAreOfOffsets) (source : List ℕ) (e : CompileFault) (refusal : Refusal) (refused : refusal_of e source ≡ Some refusal) where

@@ -2,6 +2,7 @@
 use Rattle.std.specs.Prelude.{◌≡◌, ℕ, ◌+◌, List, [], ◌∷◌, ◌++◌, Option, Some, None, codes, decimal, flat_map, length, min}
 use Rattle.elf_file.specs.Image.{stack_size}
 use Rattle.g_graph.specs.Plain.{PlainLambda, PlainOmega}
+use Rattle.s_linear.specs.declared.frame.CodeForm.TheVariants.{Plain}
 use Rattle.cc_emit_def.specs.Image.{image_of, main_of}
 use Rattle.cc_emit_keeps.specs.Images.{frames}
 use Rattle.cc_stack.specs.Depths.{depth_at, IsDepth}
@@ -9,7 +10,7 @@ use Rattle.cc_explain.specs.Explained.{refusal_text}
 use Rattle.cc_report.specs.declared.refusal.Refusal.{Refusal}
 use Rattle.cc_refusal_offset.specs.Offset.{offset_of}
 use Rattle.cc_view_source.specs.Names.{function_name}
-use Rattle.cc_source.specs.declared.fault.CompileFault.{CompileFault}
+use Rattle.cc_refusal_offset.specs.cc_source.declared.fault.CompileFault.{CompileFault}
 
 -- ---- the texts
 
@@ -44,14 +45,14 @@ IsStackLine names None line = (fs : List ℕ) × (line ≡ recursive_line names 
 -- How deep the stack of these lambdas gets, as a line.
 pub record IsStackOf (omega : PlainOmega) (ls : List PlainLambda) (line : List ℕ) : Type 0 where
   pub depths : List (Option ℕ)
-  pub are : IsDepth ls (frames ls) depths
+  pub are : IsDepth ls (frames Plain ls) depths
   pub is : IsStackLine omega.names (depth_at depths (main_of omega)) line
 
 -- The text of the image of these lambdas: the bytes of its code, the bytes of each frame, and how deep the stack gets.
 pub record IsExplained (omega : PlainOmega) (ls : List PlainLambda) (text : List ℕ) : Type 0 where
   pub line : List ℕ
   pub stack : IsStackOf omega ls line
-  pub is : text ≡ code_line (length (image_of omega ls).text) ++ frame_lines omega.names 0 (frames ls) ++ line
+  pub is : text ≡ code_line (length (image_of Plain omega ls).text) ++ frame_lines omega.names 0 (frames Plain ls) ++ line
 
 -- The text of a refusal has the place of the fault.
 pub record IsRefusalText (source : List ℕ) (e : CompileFault) (refusal : Refusal) (text : List ℕ) : Type 0 where

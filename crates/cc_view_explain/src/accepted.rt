@@ -3,6 +3,7 @@
 ghost use Rattle.std.specs.Prelude.{◌≡◌, ◌++◌, ◌<◌, ◌^◌, List, ℕ, length, map, IfOk, OnOk};
 ghost use Rattle.std.specs.Arc.{arc_value};
 ghost use Rattle.g_pass_order.specs.Calls.{CallsAreKnown};
+ghost use Rattle.s_linear.specs.declared.frame.CodeForm.TheVariants.{Plain};
 ghost use Rattle.cc_emit_def.specs.Image.{image_of, lambdas_of, main_of, CanEmit};
 ghost use Rattle.cc_emit_keeps.specs.Images.{frames};
 ghost use Rattle.cc_stack.specs.Depths.{depth_at};
@@ -20,6 +21,7 @@ use g_graph::{Lambda, Omega, main_index};
 use g_pass_order::laws::complete_lists_know_calls;
 use g_pass_order::order;
 use no_memory::NoMemory;
+use s_linear::CodeForm;
 use std::alloc::Global;
 
 // The number of the function that a program begins with.
@@ -92,7 +94,7 @@ fn push_stack_of(
 // The line of the stack of what is made of a source, whose frames have these sizes.
 fn push_stack(alloc: Global, out: &mut Vec<u8>, made: &Made, sizes: &[u32]) -> Result<(), NoMemory>
     requires emit { CanEmit made.now.omega (lambdas_of (map arc_value made.now.answers.items)) }
-    requires framed { sizes.now ≡ frames (lambdas_of (map arc_value made.now.answers.items)) }
+    requires framed { sizes.now ≡ frames Plain (lambdas_of (map arc_value made.now.answers.items)) }
     ensures { OnOk result ((line : List ℕ) × IsStackOf made.now.omega
         (lambdas_of (map arc_value made.now.answers.items)) line
         × (out.new.items ≡ out.old.items ++ line)) }
@@ -107,10 +109,10 @@ fn push_stack(alloc: Global, out: &mut Vec<u8>, made: &Made, sizes: &[u32]) -> R
 // The bytes of the code of the image.
 fn code_bytes(alloc: Global, made: &Made) -> Result<u64, NoMemory>
     requires { CanEmit made.now.omega (lambdas_of (map arc_value made.now.answers.items)) }
-    ensures { IfOk result (λ bytes. bytes ≡ length (image_of made.now.omega
+    ensures { IfOk result (λ bytes. bytes ≡ length (image_of Plain made.now.omega
         (lambdas_of (map arc_value made.now.answers.items))).text) }
 {
-    let image = emit(alloc, &made.answers, &made.omega)?;
+    let image = emit(alloc, CodeForm::Plain, &made.answers, &made.omega)?;
     Ok(image.text.len() as u64)
 }
 

@@ -3,6 +3,7 @@
 ghost use Rattle.std.specs.Prelude.{◌≡◌, ℕ, Some, map, slice_get, IfOk};
 ghost use Rattle.std.specs.Arc.{arc_value};
 ghost use Rattle.g_graph.specs.Plain.{PlainLambda};
+ghost use Rattle.s_linear.specs.declared.frame.CodeForm.TheVariants.{Plain};
 ghost use Rattle.cc_emit_def.specs.Image.{frame_of, lambdas_of};
 ghost use Rattle.cc_emit_def.specs.Laws.{IsFunction};
 ghost use Rattle.cc_emit_keeps.specs.Images.{frames};
@@ -17,7 +18,7 @@ use std::sync::Arc;
 // The bytes of the frame of a lambda's function.
 fn frame_of(alloc: Global, lambda: &Lambda) -> Result<u32, NoMemory>
     requires { IsFunction lambda.now }
-    ensures { IfOk result (λ size. size ≡ frame_of lambda.now) }
+    ensures { IfOk result (λ size. size ≡ frame_of Plain lambda.now) }
 {
     let linear = sequence(alloc, lambda)?;
     let places = place(alloc, &linear)?;
@@ -28,7 +29,7 @@ fn frame_of(alloc: Global, lambda: &Lambda) -> Result<u32, NoMemory>
 pub fn frames(alloc: Global, answers: &[Arc<Optimised>]) -> Result<Vec<u32>, NoMemory>
     requires { (f : ℕ) (l : PlainLambda)
         → slice_get (lambdas_of (map arc_value answers.now)) f ≡ Some l → IsFunction l }
-    ensures { IfOk result (λ all. all.items ≡ frames (lambdas_of (map arc_value answers.now))) }
+    ensures { IfOk result (λ all. all.items ≡ frames Plain (lambdas_of (map arc_value answers.now))) }
 {
     let mut all = Vec::with_capacity(alloc, answers.len())?;
     for answer in answers {

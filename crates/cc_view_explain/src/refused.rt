@@ -2,14 +2,14 @@
 
 ghost use Rattle.std.specs.Prelude.{◌≡◌, ◌<◌, ◌≤◌, ◌^◌, IfOk, Some, length};
 ghost use Rattle.cc_explain.specs.Explained.{refusal_text};
-ghost use Rattle.cc_refusal.specs.Refusal.{refusal_of};
+ghost use Rattle.cc_refusal_offset.specs.cc_refusal.Refusal.{refusal_of};
 ghost use Rattle.cc_view_explain.specs.Explanation.{IsRefusalText};
 
 use cc_explain::push_refusal;
+use cc_refusal_offset::cc_source::CompileFault;
 use cc_refusal_offset::laws::lines_are_of_offsets;
 use cc_refusal_offset::offset_of;
 use cc_report::Refusal;
-use cc_source::CompileFault;
 use no_memory::NoMemory;
 use std::alloc::Global;
 

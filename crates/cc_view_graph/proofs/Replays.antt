@@ -9,7 +9,7 @@ use Rattle.g_graph.specs.Plain.{PlainLambda, PlainOptimised}
 use Rattle.g_pass_def.specs.Answers.{lambda_of, AreAnswers}
 use Rattle.g_pass_def.specs.Laws.{RecipesReplay}
 use Rattle.g_pass_def.specs.Sweep.{optimise, replayed}
-use Rattle.g_pass.specs.Sweep.{rules}
+use Rattle.g_pass_replay.specs.g_pass.Sweep.{rules}
 use Rattle.cc_view_source.specs.Made.{IsMadeWith}
 use Rattle.cc_view_graph.specs.Drawn.{AreAfter, ArePrograms, HasFewer}
 use Rattle.cc_view_graph.specs.Laws.{AllStepsMakeTheAnswer}

@@ -5,7 +5,7 @@ use Rattle.g_graph.specs.declared.steps.Rule.{Rule}
 use Rattle.g_graph.specs.Plain.{PlainLambda, PlainOptimised}
 use Rattle.g_pass_def.specs.Answers.{lambda_of, AreAnswers}
 use Rattle.g_pass_def.specs.Sweep.{replayed}
-use Rattle.g_pass.specs.Sweep.{rules}
+use Rattle.g_pass_replay.specs.g_pass.Sweep.{rules}
 use Rattle.g_text.specs.Texts.{lambda_text}
 use Rattle.g_dot.specs.Drawing.{IsDrawn}
 use Rattle.cc_view_command.specs.declared.arguments.Drawing.{Drawing}

@@ -3,6 +3,9 @@
 //! Always: a fault is that of the phase that refuses the source, out of memory apart.
 #![tactic(auto)]
 
+// What is passed on of the libraries below.
+pub use cc_compile;
+
 mod callees;
 mod making;
 mod names;

@@ -9,7 +9,7 @@ use Rattle.g_pass_def.specs.Answers.{lambda_of}
 use Rattle.g_pass_def.specs.Sweep.{in_order, optimise, stepped, sweep, tried, RuleTable, Swept}
 use Rattle.g_pass_replay.specs.Counts.{counts_of}
 use Rattle.g_pass_replay.specs.declared.sweeps.SweepCount.{SweepCount}
-use Rattle.g_pass.specs.Sweep.{rules}
+use Rattle.g_pass_replay.specs.g_pass.Sweep.{rules}
 use Rattle.cc_view_steps.specs.Laws.{SweepsMakeTheAnswer}
 
 stepped-grows : (r : Rule) (n : ℕ) (s : Swept) (o : Option PlainLambda) → length s.steps ≤ length (stepped r n s o).steps

@@ -7,7 +7,7 @@ use Rattle.g_pass_def.specs.Answers.{lambda_of}
 use Rattle.g_pass_def.specs.Sweep.{swept}
 use Rattle.g_pass_replay.specs.Counts.{counts_of}
 use Rattle.g_pass_replay.specs.declared.sweeps.SweepCount.{SweepCount}
-use Rattle.g_pass.specs.Sweep.{rules}
+use Rattle.g_pass_replay.specs.g_pass.Sweep.{rules}
 use Rattle.cc_view_source.specs.Made.{IsMadeWith}
 
 -- The sweeps of a table lead to the answer: the last one ends with its lambda and its log, and together they have as many steps as that log.

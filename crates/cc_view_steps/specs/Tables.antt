@@ -5,7 +5,7 @@ use Rattle.g_graph.specs.Plain.{PlainLambda, PlainOmega, PlainOptimised}
 use Rattle.g_pass_def.specs.Answers.{lambda_of}
 use Rattle.g_pass_replay.specs.Counts.{counts_of}
 use Rattle.g_pass_replay.specs.declared.sweeps.SweepCount.{SweepCount}
-use Rattle.g_pass.specs.Sweep.{rules}
+use Rattle.g_pass_replay.specs.g_pass.Sweep.{rules}
 use Rattle.r_names.specs.Names.{rule_name}
 use Rattle.cc_view_source.specs.Made.{IsMadeWith}
 use Rattle.cc_view_source.specs.Names.{function_name}

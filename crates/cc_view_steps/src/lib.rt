@@ -3,6 +3,11 @@
 //! Always: functions are in source order, and sweeps in the order of the recipe.
 #![tactic(auto)]
 
+// What is passed on of the libraries below.
+pub use cc_view_source;
+pub use cc_view_source::cc_compile;
+pub use g_pass_replay::g_pass;
+
 pub mod laws;
 mod tables;
 mod text;

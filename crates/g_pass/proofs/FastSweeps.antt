@@ -1,6 +1,7 @@
 -- Sweeps made at once, as sweeps of the table.
 use Rattle.std.proofs.Common.{◌≡◌, ◌++◌, ℕ, Bool, true, false, List, [], ◌∷◌, length, take, Result, Ok, Err, IfOk, OnOk, OnErr, IsTrue, refl, sym, ap, subst, ◌∙◌}
 use Rattle.std.specs.Prelude.{if◌then◌else◌}
+use Rattle.std.specs.List.{fold}
 use Rattle.std.proofs.Math.Seq.{take-append_seam}
 use Rattle.g_graph.specs.declared.steps.Rule.{Rule}
 use Rattle.g_graph.specs.declared.steps.Rule.TheVariants.{Fold, Cne, Dne, Inv, Push, Pull, Invert, Unroll, Inline}
@@ -12,7 +13,7 @@ use Rattle.g_arena_def.specs.Flat.{Flat}
 use Rattle.g_pass_def.specs.Sweep.{sweep, in_order}
 use Rattle.r_sweep_def.specs.Swept.{Logged, Change, tried_by, swept_by}
 use Rattle.r_sweep_laws.specs.Fast.{HasSwept}
-use Rattle.g_pass.specs.Fast.{is_in_arena, RulesKeep, change_of}
+use Rattle.g_pass.specs.Fast.{is_in_arena, RulesKeep, change_of, swept_with, swept_each, AreInArena, AreSwept}
 use Rattle.g_pass.specs.Sweep.{applies, applied, rules}
 use Rattle.r_fold.specs.Laws.{FoldIsAStep}
 use Rattle.r_cne.specs.Laws.{CneIsAStep}
@@ -84,6 +85,33 @@ sweeps_add c (n ∷ ns) s =
 pub has_added : (c : Change) (ns : List ℕ) (l : PlainLambda) (before after : List Step) (a : Flat) → HasSwept c ns l before a after → HasAdded before after
 has_added c ns l before after a h = let m = sweeps_add c ns (logged l before) in (m.0, h.1 ∙ m.1)
 
+-- sweeps one after the other
+pub each_keeps : (keep : RulesKeep) (rs : List Rule) (s : Logged) → IsWellFormed s.lambda → IsWellFormed (swept_each rs s).lambda
+each_keeps keep [] s well = well
+each_keeps keep (r ∷ rs) s well = each_keeps keep rs (swept_with s r) (sweeps_keep r keep (in_order rules r (region_ids s.lambda.body)) s well)
+
+each_add : (rs : List Rule) (s : Logged) → HasAdded s.steps (swept_each rs s).steps
+each_add [] s = ([], none_more s.steps)
+each_add (r ∷ rs) s =
+    let first = sweeps_add (change_of r) (in_order rules r (region_ids s.lambda.body)) s in
+    let rest = each_add rs (swept_with s r) in
+    (first.0 ++ rest.0, rest.1 ∙ ap (λ xs. xs ++ rest.0) first.1 ∙ and_more s.steps first.0 rest.0)
+
+pub each_has_added : (rs : List Rule) (l : PlainLambda) (before after : List Step) (a : Flat) → AreSwept rs l before a after → HasAdded before after
+each_has_added rs l before after a h = let m = each_add rs (logged l before) in (m.0, h.1 ∙ m.1)
+
+pub added_then : {A B : Type 0} (x : Result A B) (before now after : List Step) → HasAdded before now → OnErr x (HasAdded now after) → OnErr x (HasAdded before after)
+added_then (Ok v) before now after m n = tt
+added_then (Err v) before now after m n = (m.0 ++ n.0, n.1 ∙ ap (λ xs. xs ++ n.0) m.1 ∙ and_more before m.0 n.0)
+
+pub swept_then : {A B : Type 0} (x : Result A B) (r : Rule) (rs ss : List Rule) (l : PlainLambda) (before now after : List Step) (a : Flat) → ss ≡ r ∷ rs →
+    now ≡ (swept_with (logged l before) r).steps → OnOk x (AreSwept rs (swept_with (logged l before) r).lambda now a after) → OnOk x (AreSwept ss l before a after)
+swept_then x r rs ss l before now after a e f h =
+    subst (λ q. OnOk x (AreSwept q l before a after)) (sym e) (subst (λ q. OnOk x (AreSwept rs (swept_with (logged l before) r).lambda q a after)) f h)
+
+pub later_in_arena : (r : Rule) (rs ss : List Rule) → ss ≡ r ∷ rs → AreInArena ss → AreInArena rs
+later_in_arena r rs ss e h = (subst AreInArena e h).1
+
 -- a log that has gained steps, cut back
 pub cut_back : (before after now : List Step) (n : ℕ) → HasAdded before after → n ≡ length before → now ≡ take n after → now ≡ before
 cut_back before after now n h e f = f ∙ ap (λ k. take k after) e ∙ ap (take (length before)) h.1 ∙ take-append_seam before h.0
@@ -123,6 +151,20 @@ pub is_sweep_of_calls : (callees : List PlainLambda) (l k : PlainLambda) (before
     record { lambda = k; steps = after } ≡ sweep rules callees (record { lambda = l; steps = before }) Inline
 is_sweep_of_calls callees l k before after e =
     (λ i. record { lambda = (e i).lambda; steps = (e i).steps }) ∙ sym (inline_sweeps_are_folds callees l before)
+
+-- sweeps over one arena are the table's
+pub each_is_sweep : (callees : List PlainLambda) (rs : List Rule) → AreInArena rs → (l : PlainLambda) (steps : List Step) →
+    let s = swept_each rs (logged l steps) in record { lambda = s.lambda; steps = s.steps } ≡ fold (sweep rules callees) (record { lambda = l; steps = steps }) rs
+each_is_sweep callees [] h l steps = refl
+each_is_sweep callees (r ∷ rs) h l steps =
+    let s = swept_with (logged l steps) r in
+    each_is_sweep callees rs h.1 s.lambda s.steps ∙ ap (λ t. fold (sweep rules callees) t rs) (sym (sweeps_are_folds r (not_inline r h.0) callees l steps))
+
+pub each_ok : {B : Type 0} (x : Result PlainLambda B) (callees : List PlainLambda) (rs : List Rule) → AreInArena rs → (l : PlainLambda) (before after : List Step) →
+    IfOk x (λ made. logged made after ≡ swept_each rs (logged l before)) →
+    IfOk x (λ made. record { lambda = made; steps = after } ≡ fold (sweep rules callees) (record { lambda = l; steps = before }) rs)
+each_ok (Ok made) callees rs h l before after e = (λ i. record { lambda = (e i).lambda; steps = (e i).steps }) ∙ each_is_sweep callees rs h l before
+each_ok (Err fault) callees rs h l before after e = tt
 
 -- ---- as answers
 

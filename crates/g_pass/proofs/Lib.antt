@@ -5,3 +5,5 @@ mod OneRecipe
 mod Inlined
 mod Folds
 mod FastSweeps
+mod Kept
+mod Placed

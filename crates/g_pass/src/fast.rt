@@ -1,7 +1,8 @@
 //! Sweeps at once, over an arena of the lambda or in one walk along it, which take time linear in it
 //! but for what a walk's rule takes.
 
-ghost use Rattle.std.specs.Prelude.{◌≡◌, ◌<◌, ◌++◌, ℕ, false, List, map, take, IfOk, OnErr, OnOk, IsTrue};
+ghost use Rattle.std.specs.Prelude.{◌≡◌, ◌<◌, ◌≤◌, ◌++◌, ℕ, false, List, length, map, take, IfOk, OnErr, OnOk, IsTrue};
+ghost use Rattle.std.specs.List.{fold};
 ghost use Rattle.std.specs.Arc.{arc_value};
 ghost use Rattle.g_graph.specs.Ids.{region_ids};
 ghost use Rattle.g_graph.specs.Plain.{PlainLambda};
@@ -10,9 +11,8 @@ ghost use Rattle.g_graph.specs.declared.steps.Step.{Step};
 ghost use Rattle.g_arena_def.specs.Flat.{StandsFor};
 ghost use Rattle.g_pass_def.specs.Answers.{lambdas_of};
 ghost use Rattle.g_pass_def.specs.Sweep.{in_order, sweep};
-ghost use Rattle.r_sweep_def.specs.Swept.{swept_by};
 ghost use Rattle.r_sweep_laws.specs.Fast.{HasSwept, IsWhole};
-ghost use Rattle.g_pass.specs.Fast.{change_of, is_in_arena, RulesKeep};
+ghost use Rattle.g_pass.specs.Fast.{change_of, is_in_arena, swept_each, AreInArena, AreSwept, RulesKeep};
 ghost use Rattle.g_pass.specs.Sweep.{rules};
 
 use g_arena::Arena;
@@ -29,6 +29,17 @@ pub const fn is_in_arena(rule: Rule) -> bool
     ensures { result ≡ is_in_arena rule }
 {
     matches!(rule, Rule::Cne | Rule::Dne | Rule::Inv)
+}
+
+/// How many of these rules, from the first on, are swept over an arena.
+pub fn arena_rules(sweeps: &[Rule]) -> usize
+    ensures few { result ≤ length sweeps.now }
+    ensures in_arena { AreInArena (take result sweeps.now) }
+{
+    match sweeps.split_first() {
+        Some((rule, later)) if is_in_arena(*rule) => arena_rules(later) + 1,
+        _ => 0,
+    }
 }
 
 /// What a sweep of the rule makes of a lambda. The callees are what functions that the lambda
@@ -75,35 +86,55 @@ fn swept_whole(
     ensures err { OnErr result ((added : List Step) × (log.new.items ≡ log.old.items ++ added)) }
 {
     if is_in_arena(rule) {
-        swept_in::<Brand>(alloc, Blank::new(1), rule, lambda, log)
+        swept_in::<Brand>(alloc, Blank::new(1), &[rule], lambda, log)
     } else {
         walked(alloc, rule, lambda, callees, log)
     }
 }
 
-// The sweep, with its looks counted in a ledger of its own. After NoMemory the log has steps more.
+/// What sweeps of these rules make of a lambda, one after the other, over one arena. The steps that
+/// applied are appended to the log. `NoMemory` only where the allocator has none, or where 32 bits do
+/// not count what a node or a region has; the lambda is then given up, and the log may have more
+/// steps.
+pub fn swept_together(
+    alloc: Global,
+    sweeps: &[Rule],
+    lambda: Lambda,
+    log: &mut Vec<Step>,
+) -> Result<Lambda, NoMemory>
+    requires in_arena { AreInArena sweeps.now }
+    requires well_formed { IsWellFormed lambda }
+    ensures ok { (callees : List PlainLambda) → IfOk result (λ made.
+        record { lambda = made; steps = log.new.items } ≡ fold (sweep rules callees)
+        (record { lambda = lambda; steps = log.old.items }) sweeps.now) }
+    ensures kept { IfOk result (λ made. IsWellFormed made) }
+{
+    swept_in::<Brand>(alloc, Blank::new(1), sweeps, lambda, log)
+}
+
+// The sweeps, with their looks counted in a ledger of their own. After NoMemory the log may have
+// steps more.
 fn swept_in<L: Ledger>(
     alloc: Global,
     blank: Blank,
-    rule: Rule,
+    sweeps: &[Rule],
     lambda: Lambda,
     log: &mut Vec<Step>,
 ) -> Result<Lambda, NoMemory>
     requires name { blank.name ≡ L.name }
     requires parts { blank.parts ≡ L.parts }
     requires some { 0 < blank.parts }
-    requires in_arena { IsTrue (is_in_arena rule) }
+    requires in_arena { AreInArena sweeps.now }
     requires well_formed { IsWellFormed lambda }
     ensures ok { IfOk result (λ made. record { lambda = made; steps = log.new.items } ≡
-        swept_by (change_of rule) (in_order rules rule (region_ids lambda.body))
-        (record { lambda = lambda; steps = log.old.items })) }
+        swept_each sweeps.now (record { lambda = lambda; steps = log.old.items })) }
     ensures kept { IfOk result (λ made. IsWellFormed made) }
     ensures err { OnErr result ((added : List Step) × (log.new.items ≡ log.old.items ++ added)) }
 {
     rules_keep();
     let mut looks = Steps::<L>::new(blank);
     let mut arena = Arena::of(alloc, lambda, &mut looks)?;
-    match sweep_arena(alloc, rule, &mut arena, log, &mut looks) {
+    match sweep_each(alloc, sweeps, &mut arena, log, &mut looks) {
         Ok(()) => arena.into_lambda(&mut looks),
         Err(fault) => {
             drop(arena);
@@ -138,6 +169,29 @@ fn walked(
         Rule::Inline => r_inline_walk::sweep_fast(alloc, lambda, callees, log),
         _ => unreachable!(),
     }
+}
+
+// Sweeps of these rules over an arena, one after the other. After NoMemory the log may have steps
+// more.
+fn sweep_each<L: Ledger>(
+    alloc: Global,
+    sweeps: &[Rule],
+    arena: &mut Arena,
+    log: &mut Vec<Step>,
+    looks: &mut Steps<L>,
+) -> Result<(), NoMemory>
+    requires in_arena { AreInArena sweeps.now }
+    requires whole { IsWhole arena.old }
+    ensures ok { (l : PlainLambda) → StandsFor arena.old l → IsWellFormed l → OnOk result
+        (AreSwept sweeps.now l log.old.items arena.new log.new.items) }
+    ensures err { OnErr result ((added : List Step) × (log.new.items ≡ log.old.items ++ added)) }
+{
+    let Some((rule, later)) = sweeps.split_first() else {
+        return Ok(());
+    };
+    rules_keep();
+    sweep_arena(alloc, *rule, arena, log, looks)?;
+    sweep_each(alloc, later, arena, log, looks)
 }
 
 // The sweep of a rule over an arena.

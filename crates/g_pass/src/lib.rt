@@ -10,6 +10,7 @@ pub mod laws;
 mod names;
 mod recipe;
 mod rule_step;
+mod sites;
 mod sweeps;
 
 pub use recipe::Recipe;

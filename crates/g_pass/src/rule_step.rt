@@ -39,6 +39,7 @@ fn applies(rule: Rule, lambda: &Lambda, node: u32) -> bool
     }
 }
 
+#[tactic(auto, using(crate::proofs::Kept::step_keeps))]
 fn apply(alloc: Global, rule: Rule, lambda: &mut Lambda, node: u32) -> Result<(), NoMemory>
     requires well_formed { IsWellFormed lambda.old }
     requires applies { IsTrue (applies rule lambda.old node) }
@@ -81,6 +82,7 @@ fn step_alone(alloc: Global, step: Step, lambda: &mut Lambda) -> Result<bool, No
 }
 
 // A step of inlining.
+#[tactic(auto, using(crate::proofs::Kept::held_keeps))]
 fn step_inline(
     alloc: Global,
     lambda: &mut Lambda,

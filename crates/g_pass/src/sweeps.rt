@@ -11,8 +11,9 @@ ghost use Rattle.g_pass_def.specs.Sweep.{in_order, optimise, sweep, tried};
 ghost use Rattle.g_pass.specs.Sweep.{rules};
 
 use crate::Recipe;
-use crate::fast::{is_in_arena, swept_fast};
+use crate::fast::{arena_rules, swept_fast, swept_together};
 use crate::rule_step::{is_backward, try_step};
+use crate::sites::{Site, Sites, may_apply};
 use g_graph::{Lambda, Optimised, Rule, Step, StepList, copy_of, ids, values};
 use no_memory::NoMemory;
 use std::alloc::Global;
@@ -96,23 +97,63 @@ fn sweep_steps(
         (record { lambda = lambda.old; steps = log.old.items })
         (take count (in_order rules rule (region_ids lambda.old.body))))) }
 {
-    for node in &numbers(alloc, rule, lambda)? {
-        try_step(alloc, rule, lambda, callees, *node, log)?;
+    let numbers = numbers(alloc, rule, lambda)?;
+    let mut sites = Sites::of(alloc, lambda, numbers.len())?;
+    if !is_backward(rule) {
+        sites.reverse();
+    }
+    for node in &numbers {
+        let site = sites.take_last();
+        try_at(alloc, rule, lambda, callees, *node, &sites, site, log)?;
     }
     Ok(())
 }
 
-// The fewest values of a lambda that a recipe sweeps over an arena. To put a smaller one into an
-// arena takes longer than to ask it at each of its nodes.
-const LEAST_VALUES: u64 = 1024;
-
-// Whether a recipe sweeps the rule over the lambda at once. What it answers changes no result.
-fn is_at_once(rule: Rule, lambda: &Lambda) -> bool {
-    !is_in_arena(rule) || values(lambda) >= LEAST_VALUES
+// The step of the rule at the node, which stood there.
+#[tactic(auto, using(crate::proofs::Swept::tried_unmade))]
+fn try_at(
+    alloc: Global,
+    rule: Rule,
+    lambda: &mut Lambda,
+    callees: &[Arc<Optimised>],
+    node: u32,
+    sites: &Sites,
+    site: Option<Site>,
+    log: &mut Vec<Step>,
+) -> Result<(), NoMemory>
+    requires well_formed { IsWellFormed lambda.old }
+    ensures ok { OnOk result (record { lambda = lambda.new; steps = log.new.items } ≡
+        tried rules (lambdas_of (map arc_value callees.now)) rule
+        (record { lambda = lambda.old; steps = log.old.items }) node) }
+    ensures kept { IsWellFormed lambda.new }
+    ensures err_lambda { OnErr result (lambda.new ≡ lambda.old) }
+    ensures err_log { OnErr result (log.new.items ≡ log.old.items) }
+{
+    if let Some(site) = site {
+        if !may_apply(rule, lambda, sites, site, node) {
+            return Ok(());
+        }
+    }
+    try_step(alloc, rule, lambda, callees, node, log)
 }
 
-// What a sweep makes of a lambda, of which no copy is made.
-fn swept(
+// The fewest values of a lambda that a recipe sweeps at once. To put a smaller one into an arena, or to
+// copy it along a walk, takes longer than to ask it at each of its nodes.
+const LEAST_VALUES: u64 = 1024;
+
+// Whether a recipe sweeps the rule step by step. What it answers changes no result. The other rules
+// have more steps, or ask for what is counted once in a walk.
+fn is_stepped(rule: Rule, lambda: &Lambda) -> bool {
+    match rule {
+        Rule::Fold | Rule::Cne | Rule::Dne | Rule::Inv | Rule::Invert | Rule::Unroll => {
+            values(lambda) < LEAST_VALUES
+        }
+        _ => false,
+    }
+}
+
+// What a sweep makes of a lambda, step by step.
+fn stepped(
     alloc: Global,
     rule: Rule,
     lambda: Lambda,
@@ -125,9 +166,6 @@ fn swept(
         (record { lambda = lambda; steps = log.old.items }) rule) }
     ensures kept { IfOk result (λ made. IsWellFormed made) }
 {
-    if is_at_once(rule, &lambda) {
-        return swept_fast(alloc, rule, lambda, callees, log);
-    }
     let mut lambda = lambda;
     match sweep_steps(alloc, rule, &mut lambda, callees, log) {
         Ok(()) => Ok(lambda),
@@ -155,8 +193,19 @@ pub fn optimise(
     let before = values(&lambda) as u32;
     let mut lambda = lambda;
     let mut log = Vec::new(alloc);
-    for rule in recipe.as_slice() {
-        lambda = swept(alloc, *rule, lambda, callees, &mut log)?;
+    let mut left = recipe.as_slice();
+    while let Some((rule, later)) = left.split_first() {
+        let (here, after) = left.split_at(arena_rules(left));
+        if is_stepped(*rule, &lambda) {
+            lambda = stepped(alloc, *rule, lambda, callees, &mut log)?;
+            left = later;
+        } else if here.len() > 1 {
+            lambda = swept_together(alloc, here, lambda, &mut log)?;
+            left = after;
+        } else {
+            lambda = swept_fast(alloc, *rule, lambda, callees, &mut log)?;
+            left = later;
+        }
     }
     Ok(Optimised {
         lambda,

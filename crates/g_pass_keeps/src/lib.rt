@@ -3,4 +3,7 @@
 //! Nothing in it runs.
 #![tactic(auto)]
 
+// What is passed on of the libraries below.
+pub use g_pass;
+
 pub mod laws;

@@ -15,7 +15,7 @@ use Rattle.g_pass_order.specs.Laws.{OrdersAreRanked}
 use Rattle.g_pass_def.specs.Sweep.{optimise}
 use Rattle.g_pass_def.specs.Answers.{AreAnswers, lambdas_of, program}
 use Rattle.g_pass_def.proofs.lemmas.Answers.{made-of}
-use Rattle.g_pass.specs.Sweep.{rules}
+use Rattle.g_pass_keeps.specs.g_pass.Sweep.{rules}
 use Rattle.g_pass_keeps.specs.Laws.{RulesAreSteps, AnswersKeepLists}
 use Rattle.g_pass_laws.specs.Laws.{RulesKeepNumbers, AreFewSteps, AnswersHaveFewSteps}
 use Rattle.g_pass_laws.proofs.Sweeps.{few_steps}

@@ -15,7 +15,7 @@ use Rattle.r_inline.specs.Rule as inline_rule
 use Rattle.r_invert.specs.Rule.{body_inverted}
 use Rattle.r_pull.specs.Rule.{copies_at}
 use Rattle.r_unroll.specs.Rule.{body_unrolled}
-use Rattle.g_pass.specs.Sweep.{applies, applied}
+use Rattle.g_pass_keeps.specs.g_pass.Sweep.{applies, applied}
 use Rattle.r_inline_laws.specs.Callees.{numbered}
 use Rattle.g_pass_laws.specs.Laws.{HasNumbers, RulesKeepNumbers}
 use Rattle.g_pass_laws.proofs.Pulled.{has_room, pulled_next}

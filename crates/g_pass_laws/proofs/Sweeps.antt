@@ -18,7 +18,7 @@ use Rattle.r_edit.specs.Size.{IsNoLarger}
 use Rattle.r_edit.specs.Steps.{IsApartFrom}
 use Rattle.r_edit.proofs.lemmas.Steps.{no-larger-composes}
 use Rattle.g_pass_def.specs.Sweep.{Swept, stepped, tried, in_order, sweep, swept}
-use Rattle.g_pass.specs.Sweep.{rules}
+use Rattle.g_pass_keeps.specs.g_pass.Sweep.{rules}
 use Rattle.g_pass_keeps.specs.Laws.{RulesAreSteps}
 use Rattle.g_pass_laws.specs.Laws.{HasNumbers, RulesKeepNumbers, AreFewSteps}
 use Rattle.g_pass_laws.proofs.Sized.{lambda_sized}

@@ -9,7 +9,7 @@ use Rattle.g_graph.specs.Lists.{IsComplete}
 use Rattle.g_graph.specs.Program.{lambda_values}
 use Rattle.g_graph.specs.WellFormed.{IsWellFormed}
 use Rattle.g_pass_def.specs.Answers.{AreAnswers}
-use Rattle.g_pass.specs.Sweep.{rules}
+use Rattle.g_pass_keeps.specs.g_pass.Sweep.{rules}
 
 -- the number of the next node has 32 bits
 abbrev pub HasNumbers : PlainLambda → Type 0

@@ -2,4 +2,7 @@
 //! and it takes no memory.
 #![tactic(auto)]
 
+// What is passed on of the libraries below.
+pub use g_pass_keeps;
+
 pub mod laws;

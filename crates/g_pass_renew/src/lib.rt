@@ -4,6 +4,9 @@
 //! Always: the result of a job is the answer of its function.
 #![tactic(auto)]
 
+// What is passed on of the libraries below.
+pub use g_pass;
+
 mod jobs;
 mod renewal;
 

@@ -3,6 +3,9 @@
 //! Always: a sweep begins with the lambda that the one before it made.
 #![tactic(auto)]
 
+// What is passed on of the libraries below.
+pub use g_pass;
+
 mod replay;
 mod sweeps;
 

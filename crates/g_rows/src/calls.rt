@@ -6,6 +6,7 @@
 use crate::arenas::{check_of, left};
 use crate::changes::{replace, splice_body, wrap};
 use crate::code::{linear, lines, place_lines};
+use crate::drawings::draw;
 use crate::row::Row;
 use crate::rules::{at, recipe, rules, sweep_of};
 use crate::words::{kept_of, unary_of, value_of_one, value_of_two, word_of_two};
@@ -57,6 +58,7 @@ fn look(row: &mut Row, last: &Named, word: &str, rest: &str) -> Result<(), NoMem
         "ids" => say_ids(row, last),
         "numbered" => numbered(row, last, rest),
         "print" => row.say_lambda(last.name.as_slice(), lambda),
+        "draw" => draw(row, last, rest),
         "copy" => {
             let copy = copy_of(row.alloc, lambda)?;
             row.say_whether(equal(&copy, lambda), "equal", "not equal")

@@ -5,15 +5,19 @@
 //! A row begins with a line `row NAME`. A line that begins with `=` and a blank is wanted of it. A
 //! line `function ..` begins the text of a lambda, the lines of which that follow begin with a
 //! blank; between two `@` stand a count, a blank and a text, which the line repeats that often.
-//! Each other line is a call (`calls`, `arenas`, `rules`, `changes`, `code`, `words`), most on the
-//! last lambda. A row fails where what its calls say is not what is wanted of it. The last line
-//! counts the rows.
+//! Each other line is a call (`calls`, `arenas`, `rules`, `changes`, `code`, `words`, `drawings`),
+//! most on the last lambda. A row fails where what its calls say is not what is wanted of it. The
+//! last line counts the rows.
+//!
+//! A line `part drawings` begins lambdas and calls of no row: what these say is printed, which
+//! `stdout` has. They end at a line `part rows`.
 #![tactic(auto)]
 
 mod arenas;
 mod calls;
 mod changes;
 mod code;
+mod drawings;
 mod row;
 mod rules;
 mod words;
@@ -60,15 +64,22 @@ fn main(rt: HostRuntime) -> io::Result<()> {
     let alloc = rt.alloc();
     let mut counts = Counts { rows: 0, failed: 0 };
     let mut row = Row::new(alloc);
+    let mut is_printed = false;
     for line in rt.lines(alloc) {
         let line = line?;
         let line = line.as_str();
-        if line.starts_with("row ") {
+        if let Some(part) = line.strip_prefix("part ") {
+            is_printed = part == "drawings";
+        } else if line.starts_with("row ") {
             let last = mem::replace(&mut row, Row::new(alloc));
             counts = judge(&rt, &last, counts)?;
             row.name.push_str(line)?;
         } else if take(&mut row, line).is_err() {
             return println!(rt; "out of memory");
+        }
+        if is_printed {
+            print!(rt; "{}", row.said.as_str())?;
+            row.said.clear();
         }
     }
     counts = judge(&rt, &row, counts)?;

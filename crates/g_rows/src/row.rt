@@ -103,7 +103,12 @@ impl Row {
     pub fn say_lambda(&mut self, name: &[u8], lambda: &Lambda) -> Result<(), NoMemory> {
         let mut text = Vec::new(self.alloc);
         write_lambda(&mut text, name, lambda)?;
-        match str::from_utf8(&text) {
+        self.say_text(&text)
+    }
+
+    /// Says a text.
+    pub fn say_text(&mut self, text: &[u8]) -> Result<(), NoMemory> {
+        match str::from_utf8(text) {
             Ok(text) => Ok(self.said.push_str(text)?),
             Err(_) => self.say("no text"),
         }

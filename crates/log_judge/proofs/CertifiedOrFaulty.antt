@@ -5,10 +5,11 @@ use Rattle.c_typed.specs.Typed.{ProgramTree}
 use Rattle.g_graph.specs.Plain.{PlainLambda}
 use Rattle.g_build_def.specs.Functions.{graph, names}
 use Rattle.g_build_def.specs.Functions as built
+use Rattle.s_linear.specs.declared.frame.CodeForm.{CodeForm}
 use Rattle.cc_emit_def.specs.Image.{file_of_program}
-use Rattle.cc_source.specs.Accepted.{AcceptedOrRefused, Accepts, Refuses}
-use Rattle.cc_source.specs.declared.fault.CompileFault.{CompileFault}
-use Rattle.cc_source.specs.declared.fault.CompileFault.TheVariants as source_fault
+use Rattle.cc_source_keeps.specs.cc_source.Accepted.{AcceptedOrRefused, Accepts, Refuses}
+use Rattle.cc_source_keeps.specs.cc_source.declared.fault.CompileFault.{CompileFault}
+use Rattle.cc_source_keeps.specs.cc_source.declared.fault.CompileFault.TheVariants as source_fault
 use Rattle.cc_watch.specs.Rows.{PlainRow}
 use Rattle.log_check.specs.Log.{most_log_bytes, parts_from, parts_of, rows_of, BreaksAt, IsLogOf, LogOrBreak, PlainPart}
 use Rattle.log_replay.specs.Right.{AreRight}
@@ -64,17 +65,17 @@ told replay_fault.NoMemory some = absurd (some refl)
 
 -- ---- one stage after the other
 
-module _ (source log image : List ℕ) where
+module _ (source : List ℕ) (form : CodeForm) (log image : List ℕ) where
   abbrev Faulty : Type 0
-  Faulty = (e : JudgeFault) × (e ≢ NoMemory) × IsJudgeFault e source log image
+  Faulty = (e : JudgeFault) × (e ≢ NoMemory) × IsJudgeFault e source form log image
 
   module _ (p : ProgramTree) (accepted : Accepts source p) where
-    faulty : (e : JudgeFault) → e ≢ NoMemory → IsLogFault e p log image → Faulty
-    faulty e some wrong = (e, some, of-log e source log image p accepted wrong)
+    faulty : (e : JudgeFault) → e ≢ NoMemory → IsLogFault e p form log image → Faulty
+    faulty e some wrong = (e, some, of-log e source form log image p accepted wrong)
 
     module _ (functions : List PlainPart) (read : IsRead log functions) where
       by-image : names_of_log functions ≡ names p → (ks : List PlainLambda) → AreRight (graph p) functions ks →
-          (image ≡ file_of_program (built.omega p) ks) ⊎ ((n : ℕ) × PartAt image (file_of_program (built.omega p) ks) n) → Certifies source log image ⊎ Faulty
+          (image ≡ file_of_program form (built.omega p) ks) ⊎ ((n : ℕ) × PartAt image (file_of_program form (built.omega p) ks) n) → Certifies source form log image ⊎ Faulty
       by-image named ks right (inl same) =
           inl (record {
             program = p;
@@ -83,35 +84,35 @@ module _ (source log image : List ℕ) where
           })
       by-image named ks right (inr (byte, parts)) =
           inr (faulty (OtherImage byte) (λ e. absurd cc)
-          (of-part (OtherImage byte) p log image functions read named (record { lambdas = ks; right = right; bytes = parts })))
+          (of-part (OtherImage byte) p form log image functions read named (record { lambdas = ks; right = right; bytes = parts })))
 
       by-steps : names_of_log functions ≡ names p →
           ((ks : List PlainLambda) × AreRight (graph p) functions ks) ⊎ ((e : ReplayFault) × (e ≢ replay_fault.NoMemory) × IsReplayFault (graph p) functions e) →
-          Certifies source log image ⊎ Faulty
-      by-steps named (inl (ks, right)) = by-image named ks right (same-or-apart cases_eq image (file_of_program (built.omega p) ks))
+          Certifies source form log image ⊎ Faulty
+      by-steps named (inl (ks, right)) = by-image named ks right (same-or-apart cases_eq image (file_of_program form (built.omega p) ks))
       by-steps named (inr (e, some, wrong)) =
           inr (faulty (of_replay e) (told e some)
-          (of-part (of_replay e) p log image functions read named (of-replay e (built.omega p) functions image wrong)))
+          (of-part (of_replay e) p form log image functions read named (of-replay e (built.omega p) form functions image wrong)))
 
-      by-names : RightOrFaulty → (names_of_log functions ≡ names p) ⊎ ((n : ℕ) × PartAt (names_of_log functions) (names p) n) → Certifies source log image ⊎ Faulty
+      by-names : RightOrFaulty → (names_of_log functions ≡ names p) ⊎ ((n : ℕ) × PartAt (names_of_log functions) (names p) n) → Certifies source form log image ⊎ Faulty
       by-names right (inl named) = by-steps named (right (graph p) functions)
       by-names right (inr (index, parts)) =
           inr (faulty (BadFunction (line_of functions index)) (λ e. absurd cc)
-          (of-name (line_of functions index) p log image functions read (record { index = index; names = parts; line_is = refl })))
+          (of-name (line_of functions index) p form log image functions read (record { index = index; names = parts; line_is = refl })))
 
-    by-lines : RightOrFaulty → length log ≤ most_log_bytes → ((rows : List PlainRow) × IsLogOf rows log) ⊎ ((line : ℕ) × BreaksAt line log) → Certifies source log image ⊎ Faulty
+    by-lines : RightOrFaulty → length log ≤ most_log_bytes → ((rows : List PlainRow) × IsLogOf rows log) ⊎ ((line : ℕ) × BreaksAt line log) → Certifies source form log image ⊎ Faulty
     by-lines right short (inl (rows, is)) =
         by-names (parts_of rows) (read-of log rows short is) right (same-or-apart same-name (names_of_log (parts_of rows)) (names p))
     by-lines right short (inr (line, breaks)) = inr (faulty (BadLine line) (λ e. absurd cc) (short, breaks))
 
-    by-length : RightOrFaulty → LogOrBreak → (most_log_bytes < length log) ⊎ (length log ≤ most_log_bytes) → Certifies source log image ⊎ Faulty
+    by-length : RightOrFaulty → LogOrBreak → (most_log_bytes < length log) ⊎ (length log ≤ most_log_bytes) → Certifies source form log image ⊎ Faulty
     by-length right break (inl long) = inr (faulty LongLog (λ e. absurd cc) long)
     by-length right break (inr short) = by-lines right short (break log)
 
   by-source : RightOrFaulty → LogOrBreak → ((p : ProgramTree) × Accepts source p) ⊎ ((e : CompileFault) × (e ≢ source_fault.NoMemory) × Refuses e source) →
-      Certifies source log image ⊎ Faulty
+      Certifies source form log image ⊎ Faulty
   by-source right break (inl (p, accepted)) = by-length p accepted right break (cases_lt most_log_bytes (length log))
   by-source right break (inr (e, some, refuses)) = inr (Source e, (λ same. absurd cc), (some, refuses))
 
 pub certified_or_faulty : AcceptedOrRefused → LogOrBreak → RightOrFaulty → CertifiedOrFaulty
-certified_or_faulty accepted break right source log image = by-source source log image right break (accepted source)
+certified_or_faulty accepted break right source form log image = by-source source form log image right break (accepted source)

@@ -4,8 +4,9 @@ use Rattle.c_typed.specs.Typed.{ProgramTree}
 use Rattle.g_graph.specs.Plain.{PlainOmega}
 use Rattle.g_build_def.specs.Functions.{names}
 use Rattle.g_build_def.specs.Functions as built
+use Rattle.s_linear.specs.declared.frame.CodeForm.{CodeForm}
 use Rattle.cc_emit_def.specs.Image.{file_of_program}
-use Rattle.cc_source.specs.Accepted.{Accepts}
+use Rattle.cc_source_keeps.specs.cc_source.Accepted.{Accepts}
 use Rattle.cc_source_keeps.specs.Meaning.{KeepsMeaning}
 use Rattle.log_check.specs.Log.{PlainPart}
 use Rattle.log_replay.specs.Fault.{IsReplayFault}
@@ -18,45 +19,45 @@ use Rattle.log_judge.specs.declared.fault.JudgeFault.TheVariants.{Source, LongLo
 
 -- ---- what is wrong
 
-pub of-replay : (e : ReplayFault) (o : PlainOmega) (log : List PlainPart) (image : List ℕ) → IsReplayFault o.lambdas log e → IsPartFault (of_replay e) o log image
-of-replay (replay_fault.BadCount line) o log image h = h
-of-replay (replay_fault.BadStep line) o log image h = h
-of-replay replay_fault.NoMemory o log image h = tt
+pub of-replay : (e : ReplayFault) (o : PlainOmega) (form : CodeForm) (log : List PlainPart) (image : List ℕ) → IsReplayFault o.lambdas log e → IsPartFault (of_replay e) o form log image
+of-replay (replay_fault.BadCount line) o form log image h = h
+of-replay (replay_fault.BadStep line) o form log image h = h
+of-replay replay_fault.NoMemory o form log image h = tt
 
-pub of-name : (line : ℕ) (p : ProgramTree) (log image : List ℕ) (functions : List PlainPart) → IsRead log functions → IsMisnamed p functions line →
-    IsLogFault (BadFunction line) p log image
-of-name line p log image functions read wrong = record { functions = functions; read = read; wrong = wrong }
+pub of-name : (line : ℕ) (p : ProgramTree) (form : CodeForm) (log image : List ℕ) (functions : List PlainPart) → IsRead log functions → IsMisnamed p functions line →
+    IsLogFault (BadFunction line) p form log image
+of-name line p form log image functions read wrong = record { functions = functions; read = read; wrong = wrong }
 
-pub of-part : (e : JudgeFault) (p : ProgramTree) (log image : List ℕ) (functions : List PlainPart) → IsRead log functions → names_of_log functions ≡ names p →
-    IsPartFault e (built.omega p) functions image → IsLogFault e p log image
-of-part (Source e) p log image functions read named h = h
-of-part LongLog p log image functions read named h = absurd h
-of-part (BadLine line) p log image functions read named h = absurd h
-of-part (BadFunction line) p log image functions read named h = absurd h
-of-part (BadCount line) p log image functions read named h = record { functions = functions; read = read; named = named; wrong = h }
-of-part (BadStep line) p log image functions read named h = record { functions = functions; read = read; named = named; wrong = h }
-of-part (OtherImage byte) p log image functions read named h = record { functions = functions; read = read; named = named; wrong = h }
-of-part NoMemory p log image functions read named h = tt
+pub of-part : (e : JudgeFault) (p : ProgramTree) (form : CodeForm) (log image : List ℕ) (functions : List PlainPart) → IsRead log functions → names_of_log functions ≡ names p →
+    IsPartFault e (built.omega p) form functions image → IsLogFault e p form log image
+of-part (Source e) p form log image functions read named h = h
+of-part LongLog p form log image functions read named h = absurd h
+of-part (BadLine line) p form log image functions read named h = absurd h
+of-part (BadFunction line) p form log image functions read named h = absurd h
+of-part (BadCount line) p form log image functions read named h = record { functions = functions; read = read; named = named; wrong = h }
+of-part (BadStep line) p form log image functions read named h = record { functions = functions; read = read; named = named; wrong = h }
+of-part (OtherImage byte) p form log image functions read named h = record { functions = functions; read = read; named = named; wrong = h }
+of-part NoMemory p form log image functions read named h = tt
 
-pub of-log : (e : JudgeFault) (source log image : List ℕ) (p : ProgramTree) → Accepts source p → IsLogFault e p log image → IsJudgeFault e source log image
-of-log (Source e) source log image p accepted h = absurd h
-of-log LongLog source log image p accepted h = (p, accepted, h)
-of-log (BadLine line) source log image p accepted h = (p, accepted, h)
-of-log (BadFunction line) source log image p accepted h = (p, accepted, h)
-of-log (BadCount line) source log image p accepted h = (p, accepted, h)
-of-log (BadStep line) source log image p accepted h = (p, accepted, h)
-of-log (OtherImage byte) source log image p accepted h = (p, accepted, h)
-of-log NoMemory source log image p accepted h = tt
+pub of-log : (e : JudgeFault) (source : List ℕ) (form : CodeForm) (log image : List ℕ) (p : ProgramTree) → Accepts source p → IsLogFault e p form log image → IsJudgeFault e source form log image
+of-log (Source e) source form log image p accepted h = absurd h
+of-log LongLog source form log image p accepted h = (p, accepted, h)
+of-log (BadLine line) source form log image p accepted h = (p, accepted, h)
+of-log (BadFunction line) source form log image p accepted h = (p, accepted, h)
+of-log (BadCount line) source form log image p accepted h = (p, accepted, h)
+of-log (BadStep line) source form log image p accepted h = (p, accepted, h)
+of-log (OtherImage byte) source form log image p accepted h = (p, accepted, h)
+of-log NoMemory source form log image p accepted h = tt
 
 -- ---- what is right
 
-pub certified : (p : ProgramTree) (log image : List ℕ) (functions : List PlainPart) → IsRead log functions → names_of_log functions ≡ names p →
-    IsImageOf (built.omega p) functions image → IsCertified p log image
-certified p log image functions read named h =
+pub certified : (p : ProgramTree) (form : CodeForm) (log image : List ℕ) (functions : List PlainPart) → IsRead log functions → names_of_log functions ≡ names p →
+    IsImageOf (built.omega p) form functions image → IsCertified p form log image
+certified p form log image functions read named h =
     record { functions = functions; read = read; named = named; lambdas = h.lambdas; right = h.right; file = h.file }
 
 -- the image keeps the meaning of the source where that of its lambdas does
-pub keeps : (source log image : List ℕ) (p : ProgramTree) → Accepts source p → (c : IsCertified p log image) → KeepsMeaning p c.lambdas (file_of_program (built.omega p) c.lambdas) →
-    (c : Certifies source log image) × KeepsMeaning c.program c.certified.lambdas image
-keeps source log image p accepted c kept =
-    (record { program = p; accepted = accepted; certified = c }, subst (λ bytes. KeepsMeaning p c.lambdas bytes) (sym c.file) kept)
+pub keeps : (source : List ℕ) (form : CodeForm) (log image : List ℕ) (p : ProgramTree) → Accepts source p → (c : IsCertified p form log image) → KeepsMeaning form p c.lambdas (file_of_program form (built.omega p) c.lambdas) →
+    (c : Certifies source form log image) × KeepsMeaning form c.program c.certified.lambdas image
+keeps source form log image p accepted c kept =
+    (record { program = p; accepted = accepted; certified = c }, subst (λ bytes. KeepsMeaning form p c.lambdas bytes) (sym c.file) kept)

@@ -1,6 +1,6 @@
 -- The fault of a stage as the fault of the judge.
-use Rattle.cc_source.specs.declared.fault.CompileFault.{CompileFault}
-use Rattle.cc_source.specs.declared.fault.CompileFault.TheVariants as source
+use Rattle.cc_source_keeps.specs.cc_source.declared.fault.CompileFault.{CompileFault}
+use Rattle.cc_source_keeps.specs.cc_source.declared.fault.CompileFault.TheVariants as source
 use Rattle.log_check.specs.declared.fault.ReadFault.{ReadFault}
 use Rattle.log_check.specs.declared.fault.ReadFault.TheVariants as reader
 use Rattle.log_replay.specs.declared.fault.ReplayFault.{ReplayFault}

@@ -4,7 +4,7 @@ ghost use Rattle.std.specs.Prelude.{◌≡◌};
 ghost use Rattle.log_judge.specs.Faults.{of_reader, of_replay, of_source};
 ghost use Rattle.log_judge.specs.declared.fault.JudgeFault.TheVariants.{NoMemory};
 
-use cc_source::CompileFault;
+use cc_source_keeps::cc_source::CompileFault;
 use log_check::ReadFault;
 use log_replay::ReplayFault;
 use thiserror::Error;

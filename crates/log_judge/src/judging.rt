@@ -12,12 +12,13 @@ use crate::fault::JudgeFault;
 use crate::image::judge_image;
 use crate::names::first_other_name;
 use c_typed::Typed;
-use cc_source::accepted_of;
+use cc_source_keeps::cc_source::accepted_of;
 use cc_source_keeps::laws::{kept_lists_keep_meaning, programs_can_be_emitted};
 use g_build::{BuildFault, build};
 use g_graph::Omega;
 use log_check::read_log;
 use no_memory::NoMemory;
+use s_linear::CodeForm;
 use std::alloc::Global;
 
 // The graph of a program that passes no limit.
@@ -34,12 +35,18 @@ fn graph_of(alloc: Global, typed: &Typed) -> Result<Omega, NoMemory>
 }
 
 // Judges an image of a program that passes no limit.
-fn judge_typed(alloc: Global, typed: &Typed, log: &[u8], image: &[u8]) -> Result<(), JudgeFault>
+fn judge_typed(
+    alloc: Global,
+    form: CodeForm,
+    typed: &Typed,
+    log: &[u8],
+    image: &[u8],
+) -> Result<(), JudgeFault>
     requires typed { IsWellTyped typed.now }
     requires limits { above_limits typed.now ≡ None }
     requires values { limit_passed typed.now.functions ≡ None }
-    ensures certified { IfOk result (λ _. IsCertified typed.now log.now image.now) }
-    ensures fault { IfErr result (λ e. IsLogFault e typed.now log.now image.now) }
+    ensures certified { IfOk result (λ _. IsCertified typed.now form log.now image.now) }
+    ensures fault { IfErr result (λ e. IsLogFault e typed.now form log.now image.now) }
 {
     programs_can_be_emitted();
     log_check::laws::logs_have_few_lines();
@@ -48,28 +55,34 @@ fn judge_typed(alloc: Global, typed: &Typed, log: &[u8], image: &[u8]) -> Result
         Some(line) => Err(JudgeFault::BadFunction { line }),
         None => {
             let omega = graph_of(alloc, typed)?;
-            judge_image(alloc, &omega, &read, image)
+            judge_image(alloc, form, &omega, &read, image)
         }
     }
 }
 
-/// Whether a log certifies an image of a source: then the source is accepted, and the image keeps
+/// Whether a log certifies an image of a source in this form: then the source is accepted, and the image keeps
 /// its meaning, whoever wrote log and image. `Source` comes exactly where the source is refused,
 /// with its fault, before all others, and each other fault exactly where it is the first: the log
 /// is too long, a line breaks its form, a name is not the program's, what the log says of a
 /// function is wrong, by rank and within a rank by number, or the image is not the one that the
 /// log's steps lead to. `NoMemory` may come in place of any answer.
-pub fn judge(alloc: Global, source: &[u8], log: &[u8], image: &[u8]) -> Result<(), JudgeFault>
-    ensures certified { IfOk result (λ _. (c : Certifies source.now log.now image.now)
-        × KeepsMeaning c.program c.certified.lambdas image.now) }
-    ensures fault { IfErr result (λ e. IsJudgeFault e source.now log.now image.now) }
+pub fn judge(
+    alloc: Global,
+    form: CodeForm,
+    source: &[u8],
+    log: &[u8],
+    image: &[u8],
+) -> Result<(), JudgeFault>
+    ensures certified { IfOk result (λ _. (c : Certifies source.now form log.now image.now)
+        × KeepsMeaning form c.program c.certified.lambdas image.now) }
+    ensures fault { IfErr result (λ e. IsJudgeFault e source.now form log.now image.now) }
 {
     programs_can_be_emitted();
     kept_lists_keep_meaning();
     g_pass_keeps::laws::rules_are_steps();
     g_pass_def::laws::replayed_keep_lists();
     let typed = accepted_of(alloc, source)?;
-    let judged = judge_typed(alloc, &typed, log, image);
+    let judged = judge_typed(alloc, form, &typed, log, image);
     drop(typed);
     judged
 }

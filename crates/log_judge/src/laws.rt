@@ -11,10 +11,10 @@ pub fn faults_are_first()
     ensures none { CertifiedHaveNoFault }
     ensures some { CertifiedOrFaulty }
 {
-    cc_source::laws::accepted_or_refused();
-    cc_source::laws::the_program_is_determined();
-    cc_source::laws::the_fault_is_determined();
-    cc_source::laws::accepted_is_not_refused();
+    cc_source_keeps::cc_source::laws::accepted_or_refused();
+    cc_source_keeps::cc_source::laws::the_program_is_determined();
+    cc_source_keeps::cc_source::laws::the_fault_is_determined();
+    cc_source_keeps::cc_source::laws::accepted_is_not_refused();
     log_check::laws::texts_have_one_reading();
     log_check::laws::texts_break_at_one_line();
     log_replay::laws::faults_are_first();

@@ -4,6 +4,9 @@
 //! Always: a source, a log and an image have one fault, or the log certifies the image.
 #![tactic(auto)]
 
+// What is passed on of the libraries below.
+pub use cc_source_keeps;
+
 mod compare;
 mod fault;
 mod image;

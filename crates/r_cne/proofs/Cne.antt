@@ -1,5 +1,5 @@
 -- Common node elimination keeps meaning and what is well formed.
-use Rattle.std.specs.Prelude.{option_and_then, unwrap_or}
+use Rattle.std.specs.Prelude.{option_and_then}
 use Rattle.std.proofs.Common.{◌≡◌, ℕ, ◌==◌, ◌⊎◌, Bool, true, false, cond, List, [], ◌∷◌, length, Option, None, Some, refl, sym, ap, subst, subst₂, ◌∙◌, inl, inr, arith}
 use Rattle.std.proofs.lemmas.Bool.Decides.{nat_tests}
 use Rattle.g_graph.specs.declared.op.Kind.{Kind}
@@ -10,42 +10,34 @@ use Rattle.g_graph.specs.declared.op.Origin.TheVariants.{Out}
 use Rattle.g_graph.specs.Plain.{RegionTree, region, NodeTree, node, NodeTrees, no_nodes, node_then, RegionTrees, id_of, PlainLambda}
 use Rattle.g_graph.specs.Ids.{region_ids, nodes_ids}
 use Rattle.g_graph.specs.Scope.{known}
-use Rattle.g_graph.specs.Change.{region_changed}
-use Rattle.g_graph.specs.WellFormed.{region_fits, every_region, well_formed, IsWellFormed}
+use Rattle.g_graph.specs.WellFormed.{region_fits, every_region, IsWellFormed}
 use Rattle.g_graph.specs.Nodes.{node_at}
 use Rattle.g_graph.specs.Splice.{joined_nodes}
-use Rattle.g_graph.specs.Program.{lambda_values, KeepsPrograms}
+use Rattle.g_graph.specs.Program.{lambda_values}
 use Rattle.g_graph.specs.Lists.{RegionOps, Calls, NamesGlobal}
-use Rattle.g_graph.proofs.lemmas.Complete.{complete_set, program_set}
 use Rattle.g_graph.proofs.lemmas.Found.{Found, found_at}
-use Rattle.g_graph.proofs.lemmas.Nests.{changed_well_formed_within}
 use Rattle.g_graph.proofs.lemmas.Nodes.{NodeFits, node_fits_here, KeptWithin}
 use Rattle.g_graph.proofs.lemmas.Numbers.{Numbered}
-use Rattle.g_graph.proofs.lemmas.Ops.{changed_ops}
 use Rattle.g_graph.proofs.lemmas.Unique.{times}
 use Rattle.g_mean.specs.Data.{Datum, value_of}
 use Rattle.g_mean.specs.Meaning.{Context, Outputs}
 use Rattle.g_mean.specs.LessDefined.{IsSoundDatum}
 use Rattle.g_mean.specs.Copies.{IsAmong, known_after}
 use Rattle.g_mean.specs.Holds.{HasRun, HaveRun}
-use Rattle.g_mean.specs.Edits.{IsPartOf, KeepsMeaning}
+use Rattle.g_mean.specs.Edits.{IsPartOf}
 use Rattle.g_mean.specs.Replacement.{Replaces}
-use Rattle.g_mean.proofs.lemmas.Edits.{edits_replace}
-use Rattle.g_mean.proofs.lemmas.Exchange.{edits_keep_meaning}
 use Rattle.g_mean.proofs.lemmas.Instead.{input-replaces}
-use Rattle.g_mean.proofs.lemmas.Programs.{programs_keep_meaning}
-use Rattle.g_mean.proofs.lemmas.Replacement.{lambdas_keep_meaning}
 use Rattle.r_edit.specs.Lookup.{first_of}
 use Rattle.r_edit.specs.Uses.{uses_replaced}
-use Rattle.r_edit.specs.Size.{IsNoLarger, IsResized}
+use Rattle.r_edit.specs.Size.{IsResized}
 use Rattle.r_edit.proofs.lemmas.Fewer.{uses-resized}
-use Rattle.r_edit.proofs.lemmas.Size.{resized_lambdas_are_no_larger}
-use Rattle.r_edit.proofs.lemmas.Steps.{contracts_give_steps, edits_keep_interface}
+use Rattle.r_edit.specs.Steps.{IsSafeChange}
+use Rattle.r_edit.proofs.lemmas.Steps.{kept_well_formed, changed_is_a_step}
 use Rattle.r_edit.proofs.lemmas.Lookup.{Among, first_before}
 use Rattle.r_edit.proofs.lemmas.Uses.{replaced_is, uses_kept, known_value, uses_ops}
 use Rattle.r_edit.proofs.lemmas.Meant.{has-run}
 use Rattle.r_cne.specs.Rule.{is_common, other_than, earlier, cne_here, cne}
-use Rattle.r_cne.specs.Laws.{CneReplaces, CneKeepsLambdas, CneKeepsPrograms, CneKeepsLists, CneIsAStep}
+use Rattle.r_cne.specs.Laws.{CneReplaces, CneIsAStep}
 use Rattle.r_cne.proofs.Common.{gives_value, ran_gives}
 
 -- ---- the earlier node
@@ -195,38 +187,6 @@ cne_here_ops p n (region args ns results) s e h =
     let at = changed_at n args ns results s e in
     uses_ops p (Out n 0) (Out at.first 0) (region args ns results) s at.gives h
 
--- ---- the lambda
-
-pub cne_well_formed : (n : ℕ) (l : PlainLambda) → IsWellFormed l → IsWellFormed (cne n l)
-cne_well_formed n l w = by_change (region_changed (cne_here n) l.body) refl
-  where
-    by_change : (o : Option RegionTree) → region_changed (cne_here n) l.body ≡ o → well_formed (record l { body = unwrap_or o l.body }) ≡ true
-    by_change None e = w
-    by_change (Some s) e =
-        changed_well_formed_within (cne_here n) l s (record { kept = λ r t q fits numbers. (cne_here_keeps (length l.objects) l.next n r t q fits numbers).kept })
-        (λ r t q fits numbers. (cne_here_keeps (length l.objects) l.next n r t q fits numbers).fewer) e w
-
-pub cne_keeps : (n : ℕ) (l : PlainLambda) → IsWellFormed l → KeepsMeaning l (cne n l)
-cne_keeps n l well =
-    edits_keep_meaning (cne_here n) l (cne n l) well (record { number = refl; params = refl; objects = refl; body = refl }) (λ ls ks r s part e. cne_replaces ls ks n l r s part e)
-
-pub cne_keeps_lambdas : CneKeepsLambdas
-cne_keeps_lambdas ls ks n f edited well =
-    lambdas_keep_meaning ls ks (edits_replace ls ks (cne_here n) f edited well (λ l r s found part e. cne_replaces ls ks n l r s part e))
-
-pub cne_keeps_programs : CneKeepsPrograms
-cne_keeps_programs ls ks n f edited well =
-    programs_keep_meaning ls ks (edits_replace ls ks (cne_here n) f edited well (λ l r s found part e. cne_replaces ls ks n l r s part e))
-
-pub cne_keeps_lists : CneKeepsLists
-cne_keeps_lists n l well ls f at complete =
-    complete_set l (cne n l) (cne_well_formed n l well) refl refl (λ ks h. changed_ops (Calls ks) (cne_here n) (cne_here_ops (Calls ks) n) l h) ls f at complete
-
-pub cne_keeps_program : (n : ℕ) (l : PlainLambda) → IsWellFormed l → KeepsPrograms l (cne n l)
-cne_keeps_program n l well =
-    program_set l (cne n l) (cne_well_formed n l well) refl refl (λ ks h. changed_ops (Calls ks) (cne_here n) (cne_here_ops (Calls ks) n) l h)
-    (λ count h. changed_ops (NamesGlobal count) (cne_here n) (cne_here_ops (NamesGlobal count) n) l h)
-
 -- ---- the size
 
 cne_resizes : (values n : ℕ) (r s : RegionTree) → cne_here n r ≡ Some s → IsResized values r s
@@ -234,10 +194,19 @@ cne_resizes values n (region args ns results) s e =
     let at = changed_at n args ns results s e in
     uses-resized values (Out n 0) (Out at.first 0) (region args ns results) s at.gives
 
-pub cne_is_no_larger : (n : ℕ) (l : PlainLambda) → IsNoLarger (lambda_values l) (lambda_values (cne n l))
-cne_is_no_larger n l = resized_lambdas_are_no_larger (cne_here n) l (λ r s e. cne_resizes (lambda_values l) n r s e)
+-- ---- the step
+
+pub cne_is_safe : (n : ℕ) (l : PlainLambda) → IsSafeChange (cne_here n) l
+cne_is_safe n l =
+    record {
+      replaces = λ ls ks r s part e. cne_replaces ls ks n l r s part e;
+      calls = λ ls r s e h. cne_here_ops (Calls ls) n r s e h;
+      names = λ globals r s e h. cne_here_ops (NamesGlobal globals) n r s e h;
+      resized = λ r s e. cne_resizes (lambda_values l) n r s e;
+    }
+
+pub cne_stays : (n : ℕ) (l : PlainLambda) → IsWellFormed l → IsWellFormed (cne n l)
+cne_stays n l well = kept_well_formed (cne_here n) l (λ r s e fits numbers. cne_here_keeps (length l.objects) l.next n r s e fits numbers) well
 
 pub cne_is_a_step : CneIsAStep
-cne_is_a_step held n l well =
-    contracts_give_steps held l (cne n l) (edits_keep_interface (cne_here n) l (cne n l) (record { number = refl; params = refl; objects = refl; body = refl })) (cne_is_no_larger n l)
-    (cne_well_formed n l well) (cne_keeps n l well) (cne_keeps_lists n l well) (cne_keeps_program n l well)
+cne_is_a_step held n l well = changed_is_a_step (cne_here n) l well (cne_stays n l well) (cne_is_safe n l) held

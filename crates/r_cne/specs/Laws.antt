@@ -1,11 +1,11 @@
--- Common node elimination keeps meaning, and keeps lists of lambdas complete.
-use Rattle.std.specs.Prelude.{◌≡◌, ℕ, List, Some, slice_get}
+-- Common node elimination keeps meaning.
+use Rattle.std.specs.Prelude.{◌≡◌, ℕ, List, Some}
 use Rattle.g_graph.specs.Plain.{RegionTree, PlainLambda}
 use Rattle.g_graph.specs.WellFormed.{IsWellFormed}
 use Rattle.g_mean.specs.Data.{Datum}
 use Rattle.g_mean.specs.Meaning.{Context, region_meaning}
-use Rattle.g_mean.specs.Edits.{AreEditedAt, IsPartOf, KeepsComplete}
-use Rattle.g_mean.specs.Replacement.{Replaces, FunctionsKeepMeaning, ProgramKeepsMeaning}
+use Rattle.g_mean.specs.Edits.{IsPartOf}
+use Rattle.g_mean.specs.Replacement.{Replaces}
 use Rattle.r_edit.specs.Steps.{MayStandFor}
 use Rattle.r_cne.specs.Rule.{cne_here, cne}
 
@@ -18,20 +18,6 @@ CneMeansTheSame =
 abbrev pub CneReplaces : Type 0
 CneReplaces =
     (ls ks : List PlainLambda) (n : ℕ) (l : PlainLambda) (r s : RegionTree) → IsPartOf l r → cne_here n r ≡ Some s → Replaces ls ks r s
-
--- Where the well-formed lambda of one function is changed at a node, every function keeps its meaning,
-abbrev pub CneKeepsLambdas : Type 0
-CneKeepsLambdas =
-    (ls ks : List PlainLambda) (n f : ℕ) → AreEditedAt (cne_here n) f ls ks → ((l : PlainLambda) → slice_get ls f ≡ Some l → IsWellFormed l) → FunctionsKeepMeaning ls ks
-
--- and so does the program.
-abbrev pub CneKeepsPrograms : Type 0
-CneKeepsPrograms =
-    (ls ks : List PlainLambda) (n f : ℕ) → AreEditedAt (cne_here n) f ls ks → ((l : PlainLambda) → slice_get ls f ≡ Some l → IsWellFormed l) → ProgramKeepsMeaning ls ks
-
--- Lists stay complete.
-abbrev pub CneKeepsLists : Type 0
-CneKeepsLists = (n : ℕ) (l : PlainLambda) → IsWellFormed l → KeepsComplete l (cne n l)
 
 -- The rule is a step: the lambda stays well formed, may stand for the old one in any list, and is no larger or small.
 abbrev pub CneIsAStep : Type 0

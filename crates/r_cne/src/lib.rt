@@ -8,4 +8,4 @@ mod find;
 pub mod laws;
 mod rule;
 
-pub use rule::{applies, apply};
+pub use rule::{applies, apply, can_replace};

@@ -1,19 +1,16 @@
 //! Where the rule applies, and what it does there.
 
-ghost use Rattle.std.specs.Prelude.{◌≡◌, MatchBool, IsTrue, is_some};
+ghost use Rattle.std.specs.Prelude.{◌≡◌, List, MatchBool, IsTrue, is_some};
 ghost use Rattle.std.specs.declared.option.Option.TheVariants.{Some, None};
+ghost use Rattle.g_graph.specs.Plain.{PlainLambda};
 ghost use Rattle.g_graph.specs.WellFormed.{IsWellFormed};
-ghost use Rattle.g_graph.specs.Program.{lambda_values, KeepsPrograms};
-ghost use Rattle.g_mean.specs.Edits.{KeepsMeaning, KeepsComplete};
 ghost use Rattle.g_graph.specs.declared.op.Origin.TheVariants.{Out};
-ghost use Rattle.r_edit.specs.Size.{IsNoLarger};
+ghost use Rattle.r_edit.specs.Steps.{MayStandFor};
 ghost use Rattle.r_cne.specs.Rule.{cne_here, applies, cne};
 
 use crate::find::earlier;
-use g_graph::{
-    CanChange, Change, Lambda, Origin, Region, can_change_lambda, change_lambda, is_used,
-};
-use r_edit::replace_used;
+use g_graph::{Lambda, Origin, Region, is_used};
+use r_edit::{RegionRule, replace_used};
 use std::convert::Infallible;
 
 /// Whether the rule applies at the node of this number: a Const, Local, Delta, Bin, Un, Load or
@@ -23,7 +20,7 @@ use std::convert::Infallible;
 pub fn applies(lambda: &Lambda, node: u32) -> bool
     ensures { result ≡ applies lambda.now node }
 {
-    can_change_lambda(lambda, &Common { node })
+    r_edit::applies(&Common { node }, lambda)
 }
 
 /// Uses of the node's output become uses of the output of the first node of its region with equal
@@ -32,43 +29,38 @@ pub fn apply(lambda: &mut Lambda, node: u32)
     requires well_formed { IsWellFormed lambda.old }
     requires applies { IsTrue (applies lambda.old node) }
     ensures defined { lambda.new ≡ cne node lambda.old }
-    ensures kept { IsWellFormed lambda.new }
-    ensures meaning { KeepsMeaning lambda.old lambda.new }
-    ensures list { KeepsComplete lambda.old lambda.new }
-    ensures program { KeepsPrograms lambda.old lambda.new }
-    ensures size { IsNoLarger (lambda_values lambda.old) (lambda_values lambda.new) }
+    ensures step { (held : List PlainLambda) → MayStandFor held lambda.old lambda.new }
 {
-    match change_lambda(lambda, &mut Common { node }) {
-        Ok(_) => (),
+    match r_edit::apply(&Common { node }, (), lambda) {
+        Ok(()) => (),
         Err(never) => match never {},
     }
 }
 
-// The change of the region that holds the node, and its test.
+// The rule at the node of this number.
 #[derive(Drop)]
 struct Common {
     node: u32,
 }
 
-impl CanChange for Common {
-    ghost changed = { λ c. cne_here c.node };
+impl RegionRule for Common {
+    type Memory = ();
 
-    fn can_change(&self, region: &Region) -> bool {
-        can_replace(region, self.node)
-    }
-}
-
-impl Change for Common {
     type Fault = Infallible;
 
-    ghost changed = { λ c. cne_here c.node };
+    ghost here = { λ c. cne_here c.node };
 
-    fn make(&mut self, region: &mut Region) -> Result<bool, Infallible> {
+    fn can(&self, region: &Region) -> bool {
+        can_replace(region, self.node)
+    }
+
+    fn make(&self, _memory: (), region: &mut Region) -> Result<bool, Infallible> {
         Ok(replace(region, self.node))
     }
 }
 
-fn can_replace(region: &Region, id: u32) -> bool
+/// Whether the region holds the node of this number, and uses of its output are to be replaced.
+pub fn can_replace(region: &Region, id: u32) -> bool
     ensures { result ≡ is_some (cne_here id region.now) }
 {
     match earlier(&region.nodes, id) {

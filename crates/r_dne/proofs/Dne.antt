@@ -1,5 +1,5 @@
 -- Dead node elimination keeps meaning and what is well formed.
-use Rattle.std.specs.Prelude.{option_and_then, unwrap_or}
+use Rattle.std.specs.Prelude.{option_and_then}
 use Rattle.std.proofs.Common.{◌≡◌, ℕ, Bool, true, false, not, ◌&&◌, ◌||◌, cond, List, map, length, Option, None, Some, refl, sym, ap, subst, subst₂, ◌∙◌, arith}
 use Rattle.std.proofs.lemmas.Bool.{or_parts}
 use Rattle.std.proofs.lemmas.Option.{same_Some, none-some}
@@ -12,28 +12,21 @@ use Rattle.g_graph.specs.Plain.{RegionTree, region, NodeTree, node, NodeTrees, n
 use Rattle.g_graph.specs.Ids.{region_ids, nodes_ids}
 use Rattle.g_graph.specs.Signatures.{first_args, outputs_of, output_kinds}
 use Rattle.g_graph.specs.Scope.{is_of}
-use Rattle.g_graph.specs.Change.{region_changed, has_node}
-use Rattle.g_graph.specs.WellFormed.{some_of, region_fits, every_region, well_formed, IsWellFormed}
+use Rattle.g_graph.specs.Change.{has_node}
+use Rattle.g_graph.specs.WellFormed.{some_of, region_fits, every_region, IsWellFormed}
 use Rattle.g_graph.specs.Nodes.{node_at}
 use Rattle.g_graph.specs.Replace.{nodes_redirected}
 use Rattle.g_graph.specs.Splice.{joined_nodes}
 use Rattle.g_graph.specs.Lists.{RegionOps, Calls, NamesGlobal}
-use Rattle.g_graph.proofs.lemmas.Complete.{complete_set, program_set}
 use Rattle.g_graph.proofs.lemmas.Found.{found_node, node_at-joined}
 use Rattle.g_graph.proofs.lemmas.Indexes.{same_number_true}
-use Rattle.g_graph.proofs.lemmas.Nests.{changed_well_formed_within}
 use Rattle.g_graph.proofs.lemmas.Nodes.{NodeFits, node_fits_here, KeptWithin}
 use Rattle.g_graph.proofs.lemmas.Numbers.{Numbered, numbered_fewer}
-use Rattle.g_graph.proofs.lemmas.Ops.{changed_ops}
 use Rattle.g_graph.proofs.lemmas.Splices.{Split, split_at}
 use Rattle.g_graph.proofs.lemmas.Unique.{same_number}
 use Rattle.g_mean.specs.Edits.{IsPartOf}
 use Rattle.g_mean.specs.Replacement.{Replaces}
 use Rattle.g_mean.specs.Silent.{GivesNoState}
-use Rattle.g_mean.proofs.lemmas.Edits.{edits_replace}
-use Rattle.g_mean.proofs.lemmas.Exchange.{edits_keep_meaning}
-use Rattle.g_mean.proofs.lemmas.Programs.{programs_keep_meaning}
-use Rattle.g_mean.proofs.lemmas.Replacement.{lambdas_keep_meaning}
 use Rattle.r_edit.specs.InPlace.{all_stay}
 use Rattle.r_edit.specs.Uses.{is_read, is_output_of}
 use Rattle.r_edit.specs.Removal.{region_without}
@@ -46,15 +39,15 @@ use Rattle.r_edit.proofs.lemmas.EntriesFit.{entries_kept_fit, entries_kept_ops}
 use Rattle.r_edit.proofs.lemmas.Exits.{giving_joined}
 use Rattle.r_edit.proofs.lemmas.ExitsFit.{exits_kept_fit, exits_kept_ops}
 use Rattle.r_edit.proofs.lemmas.Fewer.{without-resized, variables-resized, exits-and-entries-resized}
-use Rattle.r_edit.proofs.lemmas.Size.{resized_lambdas_are_no_larger}
-use Rattle.r_edit.proofs.lemmas.Steps.{contracts_give_steps, edits_keep_interface}
+use Rattle.r_edit.specs.Steps.{IsSafeChange}
+use Rattle.r_edit.proofs.lemmas.Steps.{kept_well_formed, changed_is_a_step}
 use Rattle.r_edit.proofs.lemmas.Placed.{not_before}
 use Rattle.r_edit.proofs.lemmas.Removal.{unread_nodes_go, without_kept, without_ops}
 use Rattle.r_edit.proofs.lemmas.Shrunk.{unread_exits_and_entries_go}
 use Rattle.r_edit.proofs.lemmas.Variables.{unread_variables_go}
 use Rattle.r_edit.proofs.lemmas.VariablesFit.{variables_kept_fit, variables_kept_ops}
 use Rattle.r_dne.specs.Rule.{gives_state, is_dead, exits_of, entries_of, variables_of, shrunk, eliminated, dne_here, dne}
-use Rattle.r_dne.specs.Laws.{DneReplaces, DneKeepsLambdas, DneKeepsPrograms, DneKeeps, DneIsAStep}
+use Rattle.r_dne.specs.Laws.{DneReplaces, DneIsAStep}
 use Rattle.r_dne.proofs.Unused.{exits_are_values, exits_unread, entries_unread, variables_are_values, variables_unread, loop_unread}
 
 -- ---- what a change is
@@ -352,16 +345,7 @@ dne_resizes values n (region args ns results) s e =
     subst (λ ms. IsResized values (region args ms results) s) (sym at.is)
     (eliminated_resized values (region args (joined_nodes at.before (node_then (node n at.op at.inputs at.regions) at.after)) results) n at.op at.inputs at.regions s at.gives)
 
--- ---- the lambda
-
-dne_well_formed : (n : ℕ) (l : PlainLambda) → IsWellFormed l → IsWellFormed (dne n l)
-dne_well_formed n l w = by_change (region_changed (dne_here n) l.body) refl
-  where
-    by_change : (o : Option RegionTree) → region_changed (dne_here n) l.body ≡ o → well_formed (record l { body = unwrap_or o l.body }) ≡ true
-    by_change None e = w
-    by_change (Some s) e =
-        changed_well_formed_within (dne_here n) l s (record { kept = λ r t q fits numbers. (dne_here_keeps (length l.objects) l.next n r t q fits numbers).kept })
-        (λ r t q fits numbers. (dne_here_keeps (length l.objects) l.next n r t q fits numbers).fewer) e w
+-- ---- the step
 
 calls_ask : (ks : List PlainLambda) → AsksNoCount (Calls ks)
 calls_ask ks = record { gamma = λ m n h. h; theta = λ m n h. h }
@@ -369,29 +353,17 @@ calls_ask ks = record { gamma = λ m n h. h; theta = λ m n h. h }
 globals_ask : (count : ℕ) → AsksNoCount (NamesGlobal count)
 globals_ask count = record { gamma = λ m n h. h; theta = λ m n h. h }
 
-pub dne_keeps_lambdas : DneKeepsLambdas
-dne_keeps_lambdas ls ks n f edited well =
-    lambdas_keep_meaning ls ks (edits_replace ls ks (dne_here n) f edited well (λ l r s found part e. dne_replaces ls ks n l r s part e))
-
-pub dne_keeps_programs : DneKeepsPrograms
-dne_keeps_programs ls ks n f edited well =
-    programs_keep_meaning ls ks (edits_replace ls ks (dne_here n) f edited well (λ l r s found part e. dne_replaces ls ks n l r s part e))
-
-pub dne_keeps : DneKeeps
-dne_keeps n l well =
-    let now = dne_well_formed n l well in
+pub dne_is_safe : (n : ℕ) (l : PlainLambda) → IsSafeChange (dne_here n) l
+dne_is_safe n l =
     record {
-      well_formed = now;
-      meaning = edits_keep_meaning (dne_here n) l (dne n l) well (record { number = refl; params = refl; objects = refl; body = refl }) (λ ls ks r s part e. dne_replaces ls ks n l r s part e);
-      list = λ ls f at complete.
-          complete_set l (dne n l) now refl refl (λ ks h. changed_ops (Calls ks) (dne_here n) (dne_here_ops (Calls ks) (calls_ask ks) n) l h) ls f at complete;
-      program = program_set l (dne n l) now refl refl (λ ks h. changed_ops (Calls ks) (dne_here n) (dne_here_ops (Calls ks) (calls_ask ks) n) l h)
-          (λ count h. changed_ops (NamesGlobal count) (dne_here n) (dne_here_ops (NamesGlobal count) (globals_ask count) n) l h);
-      size = resized_lambdas_are_no_larger (dne_here n) l (λ r s e. dne_resizes (lambda_values l) n r s e);
+      replaces = λ ls ks r s part e. dne_replaces ls ks n l r s part e;
+      calls = λ ls r s e h. dne_here_ops (Calls ls) (calls_ask ls) n r s e h;
+      names = λ globals r s e h. dne_here_ops (NamesGlobal globals) (globals_ask globals) n r s e h;
+      resized = λ r s e. dne_resizes (lambda_values l) n r s e;
     }
 
+pub dne_stays : (n : ℕ) (l : PlainLambda) → IsWellFormed l → IsWellFormed (dne n l)
+dne_stays n l well = kept_well_formed (dne_here n) l (λ r s e fits numbers. dne_here_keeps (length l.objects) l.next n r s e fits numbers) well
+
 pub dne_is_a_step : DneIsAStep
-dne_is_a_step held n l well =
-    let h = dne_keeps n l well in
-    contracts_give_steps held l (dne n l) (edits_keep_interface (dne_here n) l (dne n l) (record { number = refl; params = refl; objects = refl; body = refl })) h.size h.well_formed
-    h.meaning h.list h.program
+dne_is_a_step held n l well = changed_is_a_step (dne_here n) l well (dne_stays n l well) (dne_is_safe n l) held

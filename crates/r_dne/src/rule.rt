@@ -1,19 +1,18 @@
 //! Where the rule applies, and what it does there.
 
-ghost use Rattle.std.specs.Prelude.{◌≡◌, MatchBool, IfOk, OnOk, OnErr, IsTrue};
+ghost use Rattle.std.specs.Prelude.{◌≡◌, List, MatchBool, IfOk, OnOk, OnErr, IsTrue};
 ghost use Rattle.std.specs.declared.option.Option.TheVariants.{Some, None};
+ghost use Rattle.g_graph.specs.Plain.{PlainLambda};
 ghost use Rattle.g_graph.specs.WellFormed.{IsWellFormed};
-ghost use Rattle.g_graph.specs.Program.{lambda_values, KeepsPrograms};
-ghost use Rattle.r_edit.specs.Size.{IsNoLarger};
-ghost use Rattle.g_mean.specs.Edits.{KeepsMeaning, KeepsComplete};
+ghost use Rattle.r_edit.specs.Steps.{MayStandFor};
 ghost use Rattle.r_dne.specs.Rule.{dne_here, applies, dne};
 ghost use Rattle.r_dne.specs.Plan.{carried_out};
 
 use crate::find::{can_eliminate, plan_at};
 use crate::plan::Plan;
-use g_graph::{CanChange, Change, Lambda, Region, can_change_lambda, change_lambda};
+use g_graph::{Lambda, Region};
 use no_memory::NoMemory;
-use r_edit::{keep_entries, keep_exits, keep_variables, remove_node};
+use r_edit::{RegionRule, keep_entries, keep_exits, keep_variables, remove_node};
 use std::alloc::Global;
 
 /// Whether the rule applies at the node of this number: it gives no state and no output of it is
@@ -25,7 +24,7 @@ use std::alloc::Global;
 pub fn applies(lambda: &Lambda, node: u32) -> bool
     ensures { result ≡ applies lambda.now node }
 {
-    can_change_lambda(lambda, &Eliminating { node })
+    r_edit::applies(&Eliminating { node }, lambda)
 }
 
 /// The node goes; or of a Gamma those exits go, and then the entries whose arguments no region uses
@@ -35,45 +34,32 @@ pub fn apply(alloc: Global, lambda: &mut Lambda, node: u32) -> Result<(), NoMemo
     requires well_formed { IsWellFormed lambda.old }
     requires applies { IsTrue (applies lambda.old node) }
     ensures ok { OnOk result (lambda.new ≡ dne node lambda.old) }
-    ensures kept { OnOk result (IsWellFormed lambda.new) }
-    ensures meaning { OnOk result (KeepsMeaning lambda.old lambda.new) }
-    ensures list { OnOk result (KeepsComplete lambda.old lambda.new) }
-    ensures program { OnOk result (KeepsPrograms lambda.old lambda.new) }
-    ensures size { OnOk result (IsNoLarger (lambda_values lambda.old) (lambda_values lambda.new)) }
+    ensures step { OnOk result ((held : List PlainLambda) →
+        MayStandFor held lambda.old lambda.new) }
     ensures err { OnErr result (lambda.new ≡ lambda.old) }
 {
-    change_lambda(lambda, &mut Elimination { alloc, node })?;
-    Ok(())
+    r_edit::apply(&Eliminating { node }, alloc, lambda)
 }
 
-// The test of the region that holds the node.
+// The rule at the node of this number.
 #[derive(Drop)]
 struct Eliminating {
     node: u32,
 }
 
-impl CanChange for Eliminating {
-    ghost changed = { λ e. dne_here e.node };
+impl RegionRule for Eliminating {
+    type Memory = Global;
 
-    fn can_change(&self, region: &Region) -> bool {
-        can_eliminate(region, self.node)
-    }
-}
-
-// The change of the region that holds the node.
-#[derive(Drop)]
-struct Elimination {
-    alloc: Global,
-    node: u32,
-}
-
-impl Change for Elimination {
     type Fault = NoMemory;
 
-    ghost changed = { λ e. dne_here e.node };
+    ghost here = { λ r. dne_here r.node };
 
-    fn make(&mut self, region: &mut Region) -> Result<bool, NoMemory> {
-        eliminate(self.alloc, region, self.node)
+    fn can(&self, region: &Region) -> bool {
+        can_eliminate(region, self.node)
+    }
+
+    fn make(&self, alloc: Global, region: &mut Region) -> Result<bool, NoMemory> {
+        eliminate(alloc, region, self.node)
     }
 }
 

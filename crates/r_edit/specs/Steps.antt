@@ -7,15 +7,16 @@ use Rattle.val_core.specs.Events.{deepest}
 use Rattle.val_core.specs.Answers.{Answer, events, IsUndefined}
 use Rattle.val_core.specs.Within.{behaviour, Within}
 use Rattle.g_graph.specs.Plain.{RegionTree, PlainLambda, PlainOmega}
-use Rattle.g_graph.specs.Lists.{IsComplete}
-use Rattle.g_graph.specs.Program.{lambda_values, IsProgram, KeepsPrograms}
+use Rattle.g_graph.specs.Lists.{RegionOps, Calls, NamesGlobal, IsComplete}
+use Rattle.g_graph.specs.Program.{lambda_values, IsProgram}
 use Rattle.g_graph.specs.WellFormed.{IsWellFormed}
 use Rattle.g_mean.specs.Data.{Datum}
 use Rattle.g_mean.specs.Calls.{lambda_at, program_at}
 use Rattle.g_mean.specs.Kinds.{AreOfKinds, call_takes, ReturnsRefine}
 use Rattle.g_mean.specs.LessDefined.{Paired, AreBytes, AreSound, IsLessDefinedDatum, AreSoundDeltas}
-use Rattle.g_mean.specs.Edits.{IsEdited, KeepsMeaning, KeepsComplete}
-use Rattle.r_edit.specs.Size.{IsNoLarger}
+use Rattle.g_mean.specs.Edits.{IsPartOf, IsEdited}
+use Rattle.g_mean.specs.Replacement.{Replaces}
+use Rattle.r_edit.specs.Size.{IsNoLarger, IsResized}
 
 -- ---- bounded runs of two sides
 
@@ -63,22 +64,21 @@ pub record MayStandFor (held : List PlainLambda) (l k : PlainLambda) : Type 0 wh
   pub values : IsNoLarger (lambda_values l) (lambda_values k)
   pub lists : (ls : List PlainLambda) → slice_get ls l.number ≡ Some l → HasEach held ls → MayStandForAll ls (slice_set ls l.number k)
 
--- What the contract of a rule promises of the changed lambda: it is well formed, it may stand for the old one in any
--- list, a list stays complete and one of an image, and it is no larger or small.
-pub record IsKept (l k : PlainLambda) : Type 0 where
-  pub well_formed : IsWellFormed k
-  pub meaning : KeepsMeaning l k
-  pub list : KeepsComplete l k
-  pub program : KeepsPrograms l k
-  pub size : IsNoLarger (lambda_values l) (lambda_values k)
+-- What a rule that looks at its lambda alone proves of the region that it makes of one of lambda `l`: it may replace the
+-- old one in any lambdas, makes calls of a list and names globals where the old one does, and is resized as `l` may be.
+pub record IsSafeChange (here : RegionTree → Option RegionTree) (l : PlainLambda) : Type 0 where
+  pub replaces : (ls ks : List PlainLambda) (r s : RegionTree) → IsPartOf l r → here r ≡ Some s → Replaces ls ks r s
+  pub calls : (ls : List PlainLambda) (r s : RegionTree) → here r ≡ Some s → RegionOps (Calls ls) r → RegionOps (Calls ls) s
+  pub names : (globals : ℕ) (r s : RegionTree) → here r ≡ Some s → RegionOps (NamesGlobal globals) r → RegionOps (NamesGlobal globals) s
+  pub resized : (r s : RegionTree) → here r ≡ Some s → IsResized (lambda_values l) r s
 
 -- ---- laws
 
--- What the contract of a rule promises is a step, whatever else is held.
-abbrev pub ContractsGiveSteps : Type 0
-ContractsGiveSteps =
-    (held : List PlainLambda) (l k : PlainLambda) → KeepsInterface l k → IsNoLarger (lambda_values l) (lambda_values k) →
-    IsWellFormed k → KeepsMeaning l k → KeepsComplete l k → KeepsPrograms l k → MayStandFor held l k
+-- Where the lambda stays well formed, a safe change of a region is a step, whatever lambdas are held.
+abbrev pub SafeChangesAreSteps : Type 0
+SafeChangesAreSteps =
+    (here : RegionTree → Option RegionTree) (l k : PlainLambda) → IsWellFormed l → IsWellFormed k → IsEdited here l k → IsSafeChange here l → (held : List PlainLambda) →
+    MayStandFor held l k
 
 -- a lambda with a changed body has the interface that it had
 abbrev pub EditsKeepInterface : Type 0

@@ -13,6 +13,7 @@ mod lookup;
 mod origins;
 mod places;
 mod removal;
+mod rule;
 mod size;
 mod source;
 mod stays;
@@ -30,6 +31,7 @@ pub use places::{
     keep, keep_after_first, keep_inputs, keep_inputs_after_first, place_after, stays_at,
 };
 pub use removal::remove_node;
+pub use rule::{RegionRule, applies, apply};
 pub use size::may_change_size;
 pub use source::{Source, is_source, is_source_among, nodes_use_source, uses_source};
 pub use stays::{Stays, all_stay, are_all_true, list_of};

@@ -1,12 +1,12 @@
 //! Laws of steps: of the changes that rules make, one after the other.
 
 ghost use Rattle.r_edit.specs.Size.{ResizedLambdasAreNoLarger};
-ghost use Rattle.r_edit.specs.Steps.{ContractsGiveSteps, EditsKeepInterface, NoStepIsAStep, StepsCompose, ListsStandForThemselves, ListsCompose, CompleteListsReturn};
+ghost use Rattle.r_edit.specs.Steps.{SafeChangesAreSteps, EditsKeepInterface, NoStepIsAStep, StepsCompose, ListsStandForThemselves, ListsCompose, CompleteListsReturn};
 
-/// A change whose contract keeps meaning, complete lists and programs, and that makes the lambda no
-/// larger or leaves it small, is a step, whatever lambdas are held.
-pub fn contracts_give_steps()
-    ensures step { ContractsGiveSteps }
+/// A change of a region that may replace the old one, calls and names nothing new, and is resized as
+/// the lambda may be, is a step where the lambda stays well formed, whatever lambdas are held.
+pub fn safe_changes_are_steps()
+    ensures step { SafeChangesAreSteps }
     ensures interface { EditsKeepInterface }
 {}
 

@@ -1,6 +1,6 @@
--- A folded lambda is no larger.
+-- A folded lambda is no larger, and folding is a step.
 use Rattle.std.specs.Prelude.{option_and_then}
-use Rattle.std.proofs.Common.{◌≡◌, ◌≤◌, ◌+◌, ℕ, zero, suc, ◌==◌, Bool, true, false, cond, List, [], ◌∷◌, map, Option, Some, None, option_map, refl, sym, subst, ◌∙◌, arith}
+use Rattle.std.proofs.Common.{◌≡◌, ◌≤◌, ◌+◌, ℕ, zero, suc, ◌==◌, Bool, true, false, cond, List, [], ◌∷◌, map, length, Option, Some, None, option_map, refl, sym, subst, ◌∙◌, arith}
 use Rattle.std.proofs.lemmas.List.{length-map}
 use Rattle.std.proofs.lemmas.Option.{same_Some}
 use Rattle.val_core.specs.declared.operation.Op1.{Op1}
@@ -12,22 +12,25 @@ use Rattle.g_graph.specs.declared.op.Kind.{Kind}
 use Rattle.g_graph.specs.declared.op.Origin.{Origin}
 use Rattle.g_graph.specs.declared.op.Origin.TheVariants.{Out}
 use Rattle.g_graph.specs.Plain.{RegionTree, region, NodeTree, node, NodeTrees, no_nodes, node_then, RegionTrees, no_regions, region_then, id_of, nodes_in, PlainLambda}
+use Rattle.g_graph.specs.Lists.{Calls, NamesGlobal}
 use Rattle.g_graph.specs.Count.{region_values, node_values, nodes_values, regions_values}
+use Rattle.g_graph.specs.WellFormed.{IsWellFormed}
 use Rattle.g_graph.specs.Nodes.{node_at, node_set, constant, is_used}
 use Rattle.g_graph.specs.Program.{lambda_values}
 use Rattle.g_graph.specs.Replace.{nodes_redirected, region_redirected, origin_replaced}
 use Rattle.g_graph.specs.Splice.{args_to_inputs, outputs_to_results, joined_nodes, nodes_spliced}
 use Rattle.g_graph.proofs.lemmas.Redirects.{nodes_values-redirected}
 use Rattle.g_graph.proofs.lemmas.Splices.{nodes_values-joined}
-use Rattle.r_edit.specs.Size.{IsNoLarger, IsResized}
+use Rattle.r_edit.specs.Size.{IsResized}
 use Rattle.r_edit.proofs.lemmas.Fewer.{no-more}
-use Rattle.r_edit.proofs.lemmas.Size.{resized_lambdas_are_no_larger, redirected-resized}
-use Rattle.r_edit.proofs.lemmas.Steps.{contracts_give_steps, edits_keep_interface}
+use Rattle.r_edit.proofs.lemmas.Size.{redirected-resized}
+use Rattle.r_edit.specs.Steps.{IsSafeChange}
+use Rattle.r_edit.proofs.lemmas.Steps.{kept_well_formed, changed_is_a_step}
 use Rattle.r_fold.specs.Rule.{is_word, left_neutral, right_neutral, Folded, word, input, replacement, bin_folded, gamma_folded, theta_folded, chosen_region, folding, folded, fold_here, fold}
 use Rattle.r_fold.specs.Laws.{FoldIsAStep}
-use Rattle.r_fold.proofs.Keeps.{fold_well_formed}
-use Rattle.r_fold.proofs.Lists.{fold_keeps_lists, fold_keeps_program}
-use Rattle.r_fold.proofs.Meaning.{fold_keeps}
+use Rattle.r_fold.proofs.Fold.{fold_replaces}
+use Rattle.r_fold.proofs.Keeps.{fold_here_keeps}
+use Rattle.r_fold.proofs.Lists.{here_ops}
 
 -- ---- one node for others
 
@@ -175,12 +178,19 @@ fold_resizes values n (region args ns results) s e = by-node (node_at n ns) refl
     by-node None a c = absurd cc
     by-node (Some x) a c = by-folding x a (folding ns x) refl c
 
--- ---- the lambda
+-- ---- the step
 
-pub fold_is_no_larger : (n : ℕ) (l : PlainLambda) → IsNoLarger (lambda_values l) (lambda_values (fold n l))
-fold_is_no_larger n l = resized_lambdas_are_no_larger (fold_here n) l (λ r s e. fold_resizes (lambda_values l) n r s e)
+pub fold_is_safe : (n : ℕ) (l : PlainLambda) → IsSafeChange (fold_here n) l
+fold_is_safe n l =
+    record {
+      replaces = λ ls ks r s part e. fold_replaces ls ks n l r s part e;
+      calls = λ ls r s e h. here_ops (Calls ls) (λ w. tt) n r s e h;
+      names = λ globals r s e h. here_ops (NamesGlobal globals) (λ w. tt) n r s e h;
+      resized = λ r s e. fold_resizes (lambda_values l) n r s e;
+    }
+
+pub fold_stays : (n : ℕ) (l : PlainLambda) → IsWellFormed l → IsWellFormed (fold n l)
+fold_stays n l well = kept_well_formed (fold_here n) l (λ r s e fits numbers. fold_here_keeps (length l.objects) l.next n r s e fits numbers) well
 
 pub fold_is_a_step : FoldIsAStep
-fold_is_a_step held n l well =
-    contracts_give_steps held l (fold n l) (edits_keep_interface (fold_here n) l (fold n l) (record { number = refl; params = refl; objects = refl; body = refl })) (fold_is_no_larger n l)
-    (fold_well_formed n l well) (fold_keeps n l well) (fold_keeps_lists n l well) (fold_keeps_program n l well)
+fold_is_a_step held n l well = changed_is_a_step (fold_here n) l well (fold_stays n l well) (fold_is_safe n l) held

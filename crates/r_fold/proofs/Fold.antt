@@ -34,7 +34,7 @@ use Rattle.g_mean.proofs.lemmas.Kept.{reads-refines}
 use Rattle.g_mean.proofs.lemmas.LessDefined.{less-kept, value-sound}
 use Rattle.g_mean.proofs.lemmas.Equal.{no_deeper-compares}
 use Rattle.g_graph.specs.Nodes.{node_at, node_set, constant, is_used}
-use Rattle.r_fold.specs.Rule.{is_word, left_neutral, right_neutral, Folded, word, input, replacement, bin_folded, gamma_folded, theta_folded, chosen_region, folding, folded, fold_here}
+use Rattle.r_fold.specs.Rule.{is_word, left_neutral, right_neutral, Folded, word, input, replacement, bin_folded, gamma_folded, theta_folded, chosen_region, folding, folded}
 use Rattle.g_graph.proofs.lemmas.Splices.{joined_none}
 use Rattle.g_graph.proofs.lemmas.Found.{Found, found_at, constant_small}
 use Rattle.g_mean.proofs.lemmas.Constants.{constant-holds}
@@ -44,13 +44,10 @@ use Rattle.r_fold.proofs.Fits.{gamma-fits, theta-fits}
 use Rattle.g_mean.proofs.lemmas.Instead.{input-holds, word-replaces, input-replaces, replacement-replaces}
 use Rattle.val_core.proofs.lemmas.Answers.{then_associates, then_on_given}
 use Rattle.g_mean.proofs.lemmas.Regions.{region-refines}
-use Rattle.g_mean.proofs.lemmas.Replacement.{lambdas_keep_meaning}
-use Rattle.g_mean.proofs.lemmas.Programs.{programs_keep_meaning}
-use Rattle.r_fold.specs.Laws.{FoldReplaces, FoldKeepsLambdas, FoldKeepsPrograms}
+use Rattle.r_fold.specs.Laws.{FoldReplaces}
 use Rattle.g_mean.proofs.lemmas.Calls.{same-itself}
 use Rattle.g_mean.proofs.lemmas.Bounds.{Never, Always, never-refines}
 use Rattle.g_mean.proofs.lemmas.Holds.{holds-from}
-use Rattle.g_mean.proofs.lemmas.Edits.{edits_replace}
 
 -- ---- what was found
 
@@ -330,11 +327,3 @@ fold_replaces ls ks n l (region args ns results) s well e = by (node_at n ns) re
         Replaces ls ks (region args ns results) s
     by None h d = absurd cc
     by (Some x) h d = by-node x h (folding ns x) refl d
-
-pub fold_keeps_lambdas : FoldKeepsLambdas
-fold_keeps_lambdas ls ks n f edited well =
-    lambdas_keep_meaning ls ks (edits_replace ls ks (fold_here n) f edited well (λ l r s found part_of e. fold_replaces ls ks n l r s part_of e))
-
-pub fold_keeps_programs : FoldKeepsPrograms
-fold_keeps_programs ls ks n f edited well =
-    programs_keep_meaning ls ks (edits_replace ls ks (fold_here n) f edited well (λ l r s found part_of e. fold_replaces ls ks n l r s part_of e))

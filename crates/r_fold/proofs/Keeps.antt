@@ -1,5 +1,5 @@
 -- A folded lambda is well formed.
-use Rattle.std.proofs.Common.{◌≡◌, ℕ, zero, suc, ◌==◌, Bool, true, false, not, ◌&&◌, ◌||◌, List, [], ◌∷◌, ◌++◌, map, length, Option, None, Some, option_map, option_and_then, refl, sym, ap, subst, ◌∙◌, arith}
+use Rattle.std.proofs.Common.{◌≡◌, ℕ, zero, suc, ◌==◌, Bool, true, false, not, ◌&&◌, ◌||◌, List, [], ◌∷◌, ◌++◌, map, Option, None, Some, option_map, option_and_then, refl, sym, ap, subst, ◌∙◌, arith}
 use Rattle.std.specs.Prelude.{if◌then◌else◌, slice_get, unwrap_or}
 use Rattle.std.proofs.lemmas.Option.{same_Some}
 use Rattle.std.proofs.lemmas.Bool.{and_parts}
@@ -12,12 +12,11 @@ use Rattle.g_graph.specs.declared.op.Op.{Op}
 use Rattle.g_graph.specs.declared.op.Op.TheVariants.{Const, Undef, Local, Delta, Bin, Un, Load, Store, Clear, PtrEq, Apply, Put, Exit, Get, Gamma, Theta}
 use Rattle.g_graph.specs.declared.op.Origin.{Origin}
 use Rattle.g_graph.specs.declared.op.Origin.TheVariants.{Arg, Out}
-use Rattle.g_graph.specs.Plain.{RegionTree, region, NodeTree, node, NodeTrees, no_nodes, node_then, RegionTrees, no_regions, region_then, id_of, PlainLambda}
+use Rattle.g_graph.specs.Plain.{RegionTree, region, NodeTree, node, NodeTrees, no_nodes, node_then, RegionTrees, no_regions, region_then, id_of}
 use Rattle.g_graph.specs.Ids.{region_ids, nodes_ids, regions_ids}
 use Rattle.g_graph.specs.Signatures.{first_args, output_kinds}
 use Rattle.g_graph.specs.Scope.{is_of, known}
-use Rattle.g_graph.specs.Change.{region_changed}
-use Rattle.g_graph.specs.WellFormed.{all_of, some_of, are, one_state_each, gives, is_last, nodes_fit, results_are_last, returns_state, region_has_one_state_each, region_fits, every_region, every_in_nodes, well_formed, IsWellFormed}
+use Rattle.g_graph.specs.WellFormed.{all_of, some_of, are, one_state_each, gives, is_last, nodes_fit, results_are_last, returns_state, region_has_one_state_each, region_fits, every_region, every_in_nodes}
 use Rattle.g_graph.specs.Replace.{nodes_redirected, region_redirected, origin_replaced}
 use Rattle.g_graph.specs.Splice.{args_to_inputs, outputs_to_results, joined_nodes, nodes_spliced, region_spliced}
 use Rattle.g_graph.proofs.lemmas.Redirects.{region_ids-redirected, all_unmoved, nodes_unmoved}
@@ -27,11 +26,10 @@ use Rattle.g_graph.proofs.lemmas.Numbers.{Numbered}
 use Rattle.g_graph.proofs.lemmas.Indexes.{same_number_true}
 use Rattle.g_graph.proofs.lemmas.Found.{found_node, node_at-joined}
 use Rattle.g_graph.proofs.lemmas.Moved.{ValueFor, moved_kept}
-use Rattle.g_graph.proofs.lemmas.Nests.{changed_well_formed_within}
 use Rattle.g_graph.proofs.lemmas.Nodes.{NodeFits, node_fits_here, KeptWithin, ReplacementGives, replacement_keeps, are_kinds, first_kind, value_for}
 use Rattle.r_fold.proofs.Chosen.{chosen_inside, chosen_times, chosen_kinds}
 use Rattle.g_graph.specs.Nodes.{node_at, node_set, constant, is_used}
-use Rattle.r_fold.specs.Rule.{is_word, left_neutral, right_neutral, Folded, word, input, replacement, bin_folded, gamma_folded, theta_folded, chosen_region, folding, folded, fold_here, fold}
+use Rattle.r_fold.specs.Rule.{is_word, left_neutral, right_neutral, Folded, word, input, replacement, bin_folded, gamma_folded, theta_folded, chosen_region, folding, folded, fold_here}
 
 -- ---- a constant, as a part of one node
 
@@ -299,13 +297,3 @@ fold_here_keeps objects next n (region args ns results) s e fits numbers = by_no
         KeptWithin objects (region args ns results) s
     by_node None a c = absurd (cc)
     by_node (Some x) a c = by_folding x a (folding ns x) refl c
-
--- A folded lambda is well formed.
-pub fold_well_formed : (n : ℕ) (l : PlainLambda) → IsWellFormed l → IsWellFormed (fold n l)
-fold_well_formed n l w = by_change (region_changed (fold_here n) l.body) refl
-  where
-    by_change : (o : Option RegionTree) → region_changed (fold_here n) l.body ≡ o → well_formed (record l { body = unwrap_or o l.body }) ≡ true
-    by_change None e = w
-    by_change (Some s) e =
-        changed_well_formed_within (fold_here n) l s (record { kept = λ r t q fits numbers. (fold_here_keeps (length l.objects) l.next n r t q fits numbers).kept })
-        (λ r t q fits numbers. (fold_here_keeps (length l.objects) l.next n r t q fits numbers).fewer) e w

@@ -4,7 +4,6 @@ mod Fold
 mod PlanLemmas
 mod Chosen
 mod Keeps
-mod Meaning
 mod Lists
 mod Examples
 mod Fewer

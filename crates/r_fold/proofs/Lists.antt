@@ -1,4 +1,4 @@
--- Folding gives a region no ops but those that it has and constants, and so it keeps every call of a list in the list.
+-- Folding gives a region no ops but those that it has and constants.
 use Rattle.std.proofs.Common.{◌≡◌, ℕ, zero, suc, Bool, true, false, List, [], ◌∷◌, Option, Some, None, refl, subst, if◌then◌else◌, option_map}
 use Rattle.std.specs.Prelude.{option_and_then}
 use Rattle.std.proofs.lemmas.Option.{same_Some}
@@ -10,18 +10,13 @@ use Rattle.g_graph.specs.declared.op.Op.TheVariants.{Const, Undef, Local, Delta,
 use Rattle.g_graph.specs.declared.op.Kind.{Kind}
 use Rattle.g_graph.specs.declared.op.Origin.{Origin}
 use Rattle.g_graph.specs.declared.op.Origin.TheVariants.{Out}
-use Rattle.g_graph.specs.Plain.{RegionTree, region, NodeTree, node, NodeTrees, RegionTrees, no_regions, region_then, PlainLambda}
+use Rattle.g_graph.specs.Plain.{RegionTree, region, NodeTree, node, NodeTrees, RegionTrees, no_regions, region_then}
 use Rattle.g_graph.specs.Replace.{region_redirected, origin_replaced}
 use Rattle.g_graph.specs.Splice.{args_to_inputs, region_spliced}
 use Rattle.g_graph.specs.Nodes.{node_at, node_set, constant, is_used}
-use Rattle.g_graph.specs.Lists.{RegionOps, NodeOps, NodesOps, RegionsOps, Calls, NamesGlobal}
-use Rattle.g_graph.specs.WellFormed.{IsWellFormed}
-use Rattle.g_graph.specs.Program.{KeepsPrograms}
-use Rattle.g_graph.proofs.lemmas.Ops.{redirected_ops, region_spliced_ops, found_ops, set_ops, changed_ops}
-use Rattle.g_graph.proofs.lemmas.Complete.{complete_set, program_set}
-use Rattle.r_fold.specs.Rule.{is_word, left_neutral, right_neutral, Folded, word, input, replacement, bin_folded, gamma_folded, theta_folded, chosen_region, folding, folded, fold_here, fold}
-use Rattle.r_fold.specs.Laws.{FoldKeepsLists}
-use Rattle.r_fold.proofs.Keeps.{fold_well_formed}
+use Rattle.g_graph.specs.Lists.{RegionOps, NodeOps, NodesOps, RegionsOps}
+use Rattle.g_graph.proofs.lemmas.Ops.{redirected_ops, region_spliced_ops, found_ops, set_ops}
+use Rattle.r_fold.specs.Rule.{is_word, left_neutral, right_neutral, Folded, word, input, replacement, bin_folded, gamma_folded, theta_folded, chosen_region, folding, folded, fold_here}
 
 module _ (p : Op → ℕ → Type 0) (consts : (w : ℕ) → p (Const w) 0) where
   chosen_ops : (w : ℕ) (rs : RegionTrees) (r : RegionTree) → chosen_region w rs ≡ Some r → RegionsOps p rs → RegionOps p r
@@ -108,7 +103,7 @@ module _ (p : Op → ℕ → Type 0) (consts : (w : ℕ) → p (Const w) 0) wher
       subst (λ z. RegionOps p z) (same_Some (region_spliced n (region_redirected (args_to_inputs inputs) (region own nodes outs)) (region args ns results)) s e)
       (region_spliced_ops p n (region_redirected (args_to_inputs inputs) (region own nodes outs)) (region args ns results) (redirected_ops p (args_to_inputs inputs) nodes k) h)
 
-  here_ops : (n : ℕ) (r s : RegionTree) → fold_here n r ≡ Some s → RegionOps p r → RegionOps p s
+  pub here_ops : (n : ℕ) (r s : RegionTree) → fold_here n r ≡ Some s → RegionOps p r → RegionOps p s
   here_ops n (region args ns results) s e h = by_node (node_at n ns) refl e
     where
       by_folding : (x : NodeTree) → node_at n ns ≡ Some x → (f : Option Folded) → folding ns x ≡ f → option_and_then (λ g. folded n (region args ns results) g) f ≡ Some s → RegionOps p s
@@ -118,14 +113,3 @@ module _ (p : Op → ℕ → Type 0) (consts : (w : ℕ) → p (Const w) 0) wher
       by_node : (x : Option NodeTree) → node_at n ns ≡ x → option_and_then (λ g. folded n (region args ns results) g) (option_and_then (folding ns) x) ≡ Some s → RegionOps p s
       by_node None a c = absurd (cc)
       by_node (Some x) a c = by_folding x a (folding ns x) refl c
-
-  pub fold_ops : (n : ℕ) (l : PlainLambda) → RegionOps p l.body → RegionOps p (fold n l).body
-  fold_ops n l h = changed_ops p (fold_here n) (here_ops n) l h
-
-pub fold_keeps_lists : FoldKeepsLists
-fold_keeps_lists n l well ls f at complete =
-    complete_set l (fold n l) (fold_well_formed n l well) refl refl (λ ks h. fold_ops (Calls ks) (λ w. tt) n l h) ls f at complete
-
-pub fold_keeps_program : (n : ℕ) (l : PlainLambda) → IsWellFormed l → KeepsPrograms l (fold n l)
-fold_keeps_program n l well =
-    program_set l (fold n l) (fold_well_formed n l well) refl refl (λ ks h. fold_ops (Calls ks) (λ w. tt) n l h) (λ count h. fold_ops (NamesGlobal count) (λ w. tt) n l h)

@@ -11,4 +11,4 @@ mod rule;
 
 pub use plan::{Plan, operand_plan, operands_plan};
 pub use replacement::{chosen_place, has_one_turn};
-pub use rule::{applies, apply};
+pub use rule::{applies, apply, can_fold};

@@ -1,21 +1,20 @@
 //! Where the rule applies, and what it does there.
 
-ghost use Rattle.std.specs.Prelude.{◌≡◌, MatchBool, IfOk, OnOk, OnErr, IsTrue, is_some, option_map, option_and_then};
+ghost use Rattle.std.specs.Prelude.{◌≡◌, List, MatchBool, IfOk, OnOk, OnErr, IsTrue, is_some, option_map, option_and_then};
 ghost use Rattle.std.specs.declared.option.Option.TheVariants.{Some, None};
-ghost use Rattle.g_graph.specs.Plain.{nodes_of, nodes_in};
+ghost use Rattle.g_graph.specs.Plain.{nodes_of, nodes_in, PlainLambda};
 ghost use Rattle.g_graph.specs.WellFormed.{IsWellFormed};
 ghost use Rattle.g_graph.specs.Nodes.{node_at};
-ghost use Rattle.g_graph.specs.Program.{lambda_values, KeepsPrograms};
 ghost use Rattle.r_fold.specs.Rule.{folding, folded, fold_here, applies, fold};
-ghost use Rattle.r_edit.specs.Size.{IsNoLarger};
-ghost use Rattle.g_mean.specs.Edits.{KeepsMeaning, KeepsComplete};
+ghost use Rattle.r_edit.specs.Steps.{MayStandFor};
 ghost use Rattle.r_fold.specs.Plan.{planned};
 
 use crate::edit::{can_carry_out, carry_out};
 use crate::plan::{Plan, plain_plan};
 use crate::replacement::{has_replacement, replacement_plan};
-use g_graph::{CanChange, Change, Lambda, Node, Region, can_change_lambda, change_lambda, node_at};
+use g_graph::{Lambda, Node, Region, node_at};
 use no_memory::NoMemory;
+use r_edit::RegionRule;
 use std::alloc::Global;
 
 /// Whether the rule applies at the node of this number: a Bin or Un node whose inputs are
@@ -25,7 +24,7 @@ use std::alloc::Global;
 pub fn applies(lambda: &Lambda, node: u32) -> bool
     ensures { result ≡ applies lambda.now node }
 {
-    can_change_lambda(lambda, &Folding { node })
+    r_edit::applies(&Folding { node }, lambda)
 }
 
 /// Folds the node: it becomes the constant that it gives, its uses become uses of the other
@@ -35,31 +34,42 @@ pub fn apply(alloc: Global, lambda: &mut Lambda, node: u32) -> Result<(), NoMemo
     requires well_formed { IsWellFormed lambda.old }
     requires applies { IsTrue (applies lambda.old node) }
     ensures ok { OnOk result (lambda.new ≡ fold node lambda.old) }
-    ensures kept { OnOk result (IsWellFormed lambda.new) }
-    ensures meaning { OnOk result (KeepsMeaning lambda.old lambda.new) }
-    ensures list { OnOk result (KeepsComplete lambda.old lambda.new) }
-    ensures program { OnOk result (KeepsPrograms lambda.old lambda.new) }
-    ensures size { OnOk result (IsNoLarger (lambda_values lambda.old) (lambda_values lambda.new)) }
+    ensures step { OnOk result ((held : List PlainLambda) →
+        MayStandFor held lambda.old lambda.new) }
     ensures err { OnErr result (lambda.new ≡ lambda.old) }
 {
-    change_lambda(lambda, &mut Fold { alloc, node })?;
-    Ok(())
+    r_edit::apply(&Folding { node }, alloc, lambda)
 }
 
-// The test whether a region holds the node and the node can be folded.
+// The rule at the node of this number.
 #[derive(Drop)]
 struct Folding {
     node: u32,
 }
 
-impl CanChange for Folding {
-    ghost changed = { λ f. fold_here f.node };
+impl RegionRule for Folding {
+    type Memory = Global;
 
-    fn can_change(&self, region: &Region) -> bool {
-        match node_at(&region.nodes, self.node) {
-            Some(node) => node_folds(region, self.node, node),
-            None => false,
-        }
+    type Fault = NoMemory;
+
+    ghost here = { λ r. fold_here r.node };
+
+    fn can(&self, region: &Region) -> bool {
+        can_fold(region, self.node)
+    }
+
+    fn make(&self, alloc: Global, region: &mut Region) -> Result<bool, NoMemory> {
+        fold_region(alloc, region, self.node)
+    }
+}
+
+/// Whether the region holds the node of this number, and the node can be folded.
+pub fn can_fold(region: &Region, id: u32) -> bool
+    ensures { result ≡ is_some (fold_here id region.now) }
+{
+    match node_at(&region.nodes, id) {
+        Some(node) => node_folds(region, id, node),
+        None => false,
     }
 }
 
@@ -71,23 +81,6 @@ fn node_folds(region: &Region, id: u32, node: &Node) -> bool
     match plain_plan(&region.nodes, node) {
         Some(plan) => can_carry_out(region, id, &plan),
         None => has_replacement(&region.nodes, node),
-    }
-}
-
-// The change of the region that holds the node.
-#[derive(Drop)]
-struct Fold {
-    alloc: Global,
-    node: u32,
-}
-
-impl Change for Fold {
-    type Fault = NoMemory;
-
-    ghost changed = { λ f. fold_here f.node };
-
-    fn make(&mut self, region: &mut Region) -> Result<bool, NoMemory> {
-        fold_region(self.alloc, region, self.node)
     }
 }
 

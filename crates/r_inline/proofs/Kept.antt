@@ -1,4 +1,4 @@
--- The rule keeps lambdas well formed and lists complete, and is a step.
+-- The rule keeps lambdas well formed, and is a step.
 use Rattle.std.specs.Prelude.{◌+◌, ◌*◌, ◌-◌, ◌==◌, ◌&&◌, nat_le, ◌^◌, unwrap_or, is_some, slice_set}
 use Rattle.std.proofs.Common.{◌≡◌, ℕ, true, List, [], ◌∷◌, map, length, Option, None, Some, slice_get, refl, sym, ap, subst, ◌∙◌, arith}
 use Rattle.std.proofs.lemmas.Bool.{and_parts}

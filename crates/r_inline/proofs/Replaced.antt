@@ -25,8 +25,6 @@ use Rattle.g_mean.proofs.lemmas.Edits.{edits_replace}
 use Rattle.g_mean.proofs.lemmas.Kept.{reads-refines}
 use Rattle.g_mean.proofs.lemmas.LessDefined.{less-kept}
 use Rattle.g_mean.proofs.lemmas.LocalRefinement.{bodies_replace_calls}
-use Rattle.g_mean.proofs.lemmas.Programs.{programs_keep_meaning}
-use Rattle.g_mean.proofs.lemmas.Replacement.{lambdas_keep_meaning}
 use Rattle.g_mean.proofs.lemmas.Splices.{joined-read, spliced_regions_refine}
 use Rattle.r_edit.proofs.lemmas.Numbers.{below, among-whole}
 use Rattle.r_copy.specs.Numbering.{number_from, region_numbered}
@@ -34,7 +32,7 @@ use Rattle.r_copy.proofs.lemmas.Numbering.{number_from-least, moved-ids}
 use Rattle.r_copy.proofs.lemmas.Fits.{copies_fit}
 use Rattle.r_copy.proofs.lemmas.Copies.{numbered_copies_mean_the_same}
 use Rattle.r_inline.specs.Rule.{inlined, iln_here}
-use Rattle.r_inline.specs.Laws.{IlnReplaces, IlnKeepsLambdas, IlnKeepsPrograms}
+use Rattle.r_inline.specs.Laws.{IlnReplaces}
 use Rattle.r_inline.proofs.Body.{IsBody, is-body, arguments-count}
 use Rattle.r_inline.proofs.Call.{inlined-at}
 
@@ -133,9 +131,3 @@ module _ (ls ks : List PlainLambda) (n next f : ℕ) (callee : PlainLambda) (wel
   same-but =
       edits_replace ls ks (iln_here next n callee) f edited (λ l at. (each l at).0)
       (λ l r s at part e. iln_replaces ls ks n callee l r s well none there part (ap (λ m. iln_here m n callee r) (each l at).1 ∙ e))
-
-pub iln_keeps_lambdas : IlnKeepsLambdas
-iln_keeps_lambdas ls ks n next f callee well none there edited each = lambdas_keep_meaning ls ks (same-but ls ks n next f callee well none there edited each)
-
-pub iln_keeps_programs : IlnKeepsPrograms
-iln_keeps_programs ls ks n next f callee well none there edited each = programs_keep_meaning ls ks (same-but ls ks n next f callee well none there edited each)

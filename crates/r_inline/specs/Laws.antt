@@ -2,8 +2,8 @@
 use Rattle.std.specs.Prelude.{◌≡◌, ℕ, IsTrue, List, [], ◌∷◌, Some, slice_get}
 use Rattle.g_graph.specs.Plain.{RegionTree, PlainLambda}
 use Rattle.g_graph.specs.WellFormed.{IsWellFormed}
-use Rattle.g_mean.specs.Edits.{AreEditedAt, IsPartOf}
-use Rattle.g_mean.specs.Replacement.{Replaces, FunctionsKeepMeaning, ProgramKeepsMeaning}
+use Rattle.g_mean.specs.Edits.{IsPartOf}
+use Rattle.g_mean.specs.Replacement.{Replaces}
 use Rattle.r_edit.specs.Steps.{MayStandFor}
 use Rattle.r_inline.specs.Rule.{iln_here, applies, iln}
 
@@ -13,18 +13,6 @@ abbrev pub IlnReplaces : Type 0
 IlnReplaces =
     (ls ks : List PlainLambda) (n : ℕ) (callee l : PlainLambda) (r s : RegionTree) → IsWellFormed callee → callee.objects ≡ [] → slice_get ls callee.number ≡ Some callee →
     IsPartOf l r → iln_here l.next n callee r ≡ Some s → Replaces ls ks r s
-
--- So where the well-formed lambda of one function is changed at a node, every function keeps its meaning, and so does
--- the program.
-abbrev pub IlnKeepsLambdas : Type 0
-IlnKeepsLambdas =
-    (ls ks : List PlainLambda) (n next f : ℕ) (callee : PlainLambda) → IsWellFormed callee → callee.objects ≡ [] → slice_get ls callee.number ≡ Some callee →
-    AreEditedAt (iln_here next n callee) f ls ks → ((l : PlainLambda) → slice_get ls f ≡ Some l → IsWellFormed l × (l.next ≡ next)) → FunctionsKeepMeaning ls ks
-
-abbrev pub IlnKeepsPrograms : Type 0
-IlnKeepsPrograms =
-    (ls ks : List PlainLambda) (n next f : ℕ) (callee : PlainLambda) → IsWellFormed callee → callee.objects ≡ [] → slice_get ls callee.number ≡ Some callee →
-    AreEditedAt (iln_here next n callee) f ls ks → ((l : PlainLambda) → slice_get ls f ≡ Some l → IsWellFormed l × (l.next ≡ next)) → ProgramKeepsMeaning ls ks
 
 -- The rule is a step where the callee is held: the lambda stays well formed, may stand for the old one in every list that
 -- has both at their numbers, and is no larger or small.

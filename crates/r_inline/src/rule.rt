@@ -57,7 +57,6 @@ pub fn apply(alloc: Global, lambda: &mut Lambda, node: u32, callee: &Lambda) -> 
     requires callee { IsWellFormed callee.now }
     requires applies { IsTrue (applies lambda.old node callee.now) }
     ensures ok { OnOk result (lambda.new ≡ iln node callee.now lambda.old) }
-    ensures kept { OnOk result (IsWellFormed lambda.new) }
     ensures step { OnOk result (MayStandFor (callee.now ∷ []) lambda.old lambda.new) }
     ensures err { OnErr result (lambda.new ≡ lambda.old) }
 {

@@ -1,5 +1,5 @@
 -- Invariant value redirection keeps meaning and what is well formed.
-use Rattle.std.specs.Prelude.{option_and_then, unwrap_or}
+use Rattle.std.specs.Prelude.{option_and_then}
 use Rattle.std.proofs.Common.{◌≡◌, ℕ, zero, suc, ◌+◌, Bool, true, false, ◌&&◌, cond, List, [], ◌∷◌, length, Option, None, Some, slice_get, refl, sym, ap, subst, subst₂, ◌∙◌, arith}
 use Rattle.std.proofs.lemmas.Bool.{and_parts}
 use Rattle.std.proofs.lemmas.Option.{same_Some, none-some}
@@ -13,26 +13,19 @@ use Rattle.g_graph.specs.Plain.{RegionTree, region, NodeTree, node, NodeTrees, n
 use Rattle.g_graph.specs.Ids.{region_ids, nodes_ids}
 use Rattle.g_graph.specs.Signatures.{joined, outputs_of}
 use Rattle.g_graph.specs.Scope.{same_kind}
-use Rattle.g_graph.specs.Change.{region_changed, has_node}
-use Rattle.g_graph.specs.WellFormed.{is_origin, region_fits, every_region, well_formed, IsWellFormed}
+use Rattle.g_graph.specs.Change.{has_node}
+use Rattle.g_graph.specs.WellFormed.{is_origin, region_fits, every_region, IsWellFormed}
 use Rattle.g_graph.specs.Nodes.{node_at}
 use Rattle.g_graph.specs.Splice.{joined_nodes}
 use Rattle.g_graph.specs.Lists.{RegionOps, Calls, NamesGlobal}
-use Rattle.g_graph.proofs.lemmas.Complete.{complete_set, program_set}
 use Rattle.g_graph.proofs.lemmas.Found.{found_node, node_at-joined}
 use Rattle.g_graph.proofs.lemmas.Indexes.{same_kind_true, is_origin_some}
-use Rattle.g_graph.proofs.lemmas.Nests.{changed_well_formed_within}
 use Rattle.g_graph.proofs.lemmas.Nodes.{NodeFits, node_fits_here, KeptWithin}
 use Rattle.g_graph.proofs.lemmas.Numbers.{Numbered}
-use Rattle.g_graph.proofs.lemmas.Ops.{changed_ops}
 use Rattle.g_graph.proofs.lemmas.Splices.{Split, split_at}
 use Rattle.g_graph.proofs.lemmas.Unique.{same_number}
 use Rattle.g_mean.specs.Edits.{IsPartOf}
 use Rattle.g_mean.specs.Replacement.{Replaces}
-use Rattle.g_mean.proofs.lemmas.Edits.{edits_replace}
-use Rattle.g_mean.proofs.lemmas.Exchange.{edits_keep_meaning}
-use Rattle.g_mean.proofs.lemmas.Programs.{programs_keep_meaning}
-use Rattle.g_mean.proofs.lemmas.Replacement.{lambdas_keep_meaning}
 use Rattle.r_edit.specs.InPlace.{outputs_redirected}
 use Rattle.r_edit.specs.Size.{IsResized}
 use Rattle.g_graph.specs.Program.{lambda_values}
@@ -40,11 +33,11 @@ use Rattle.r_edit.specs.Carried.{passed, output_carried, exits_carried}
 use Rattle.r_edit.proofs.lemmas.Carried.{carried_exits_go, carried_uses_move}
 use Rattle.r_edit.proofs.lemmas.CarriedExits.{exits_carried_fit, exits_carried_ops}
 use Rattle.r_edit.proofs.lemmas.Fewer.{outputs-resized, carried-resized}
-use Rattle.r_edit.proofs.lemmas.Size.{resized_lambdas_are_no_larger}
-use Rattle.r_edit.proofs.lemmas.Steps.{contracts_give_steps, edits_keep_interface}
+use Rattle.r_edit.specs.Steps.{IsSafeChange}
+use Rattle.r_edit.proofs.lemmas.Steps.{kept_well_formed, changed_is_a_step}
 use Rattle.r_edit.proofs.lemmas.CarriedUses.{uses_carried_fit, outputs_redirected_ops}
 use Rattle.r_inv.specs.Rule.{exits_from, variables_from, some_used, carried_exits, carried_variables, moved, inv_here, inv}
-use Rattle.r_inv.specs.Laws.{InvReplaces, InvKeepsLambdas, InvKeepsPrograms, InvKeeps, InvIsAStep}
+use Rattle.r_inv.specs.Laws.{InvReplaces, InvIsAStep}
 
 -- ---- what is carried
 
@@ -276,40 +269,19 @@ inv_resizes values n (region args ns results) s e =
     subst (λ ms. IsResized values (region args ms results) s) (sym at.is)
     (moved_resized values (region args (joined_nodes at.before (node_then (node n at.op at.inputs at.regions) at.after)) results) n at.op at.inputs at.regions s at.gives)
 
--- ---- the lambda
+-- ---- the step
 
-inv_well_formed : (n : ℕ) (l : PlainLambda) → IsWellFormed l → IsWellFormed (inv n l)
-inv_well_formed n l w = by_change (region_changed (inv_here n) l.body) refl
-  where
-    by_change : (o : Option RegionTree) → region_changed (inv_here n) l.body ≡ o → well_formed (record l { body = unwrap_or o l.body }) ≡ true
-    by_change None e = w
-    by_change (Some s) e =
-        changed_well_formed_within (inv_here n) l s (record { kept = λ r t q fits numbers. (inv_here_keeps (length l.objects) l.next n r t q fits numbers).kept })
-        (λ r t q fits numbers. (inv_here_keeps (length l.objects) l.next n r t q fits numbers).fewer) e w
-
-pub inv_keeps_lambdas : InvKeepsLambdas
-inv_keeps_lambdas ls ks n f edited well =
-    lambdas_keep_meaning ls ks (edits_replace ls ks (inv_here n) f edited well (λ l r s found part e. inv_replaces ls ks n l r s part e))
-
-pub inv_keeps_programs : InvKeepsPrograms
-inv_keeps_programs ls ks n f edited well =
-    programs_keep_meaning ls ks (edits_replace ls ks (inv_here n) f edited well (λ l r s found part e. inv_replaces ls ks n l r s part e))
-
-pub inv_keeps : InvKeeps
-inv_keeps n l well =
-    let now = inv_well_formed n l well in
+pub inv_is_safe : (n : ℕ) (l : PlainLambda) → IsSafeChange (inv_here n) l
+inv_is_safe n l =
     record {
-      well_formed = now;
-      meaning = edits_keep_meaning (inv_here n) l (inv n l) well (record { number = refl; params = refl; objects = refl; body = refl }) (λ ls ks r s part e. inv_replaces ls ks n l r s part e);
-      list = λ ls f at complete.
-          complete_set l (inv n l) now refl refl (λ ks h. changed_ops (Calls ks) (inv_here n) (inv_here_ops (Calls ks) n) l h) ls f at complete;
-      program = program_set l (inv n l) now refl refl (λ ks h. changed_ops (Calls ks) (inv_here n) (inv_here_ops (Calls ks) n) l h)
-          (λ count h. changed_ops (NamesGlobal count) (inv_here n) (inv_here_ops (NamesGlobal count) n) l h);
-      size = resized_lambdas_are_no_larger (inv_here n) l (λ r s e. inv_resizes (lambda_values l) n r s e);
+      replaces = λ ls ks r s part e. inv_replaces ls ks n l r s part e;
+      calls = λ ls r s e h. inv_here_ops (Calls ls) n r s e h;
+      names = λ globals r s e h. inv_here_ops (NamesGlobal globals) n r s e h;
+      resized = λ r s e. inv_resizes (lambda_values l) n r s e;
     }
 
+pub inv_stays : (n : ℕ) (l : PlainLambda) → IsWellFormed l → IsWellFormed (inv n l)
+inv_stays n l well = kept_well_formed (inv_here n) l (λ r s e fits numbers. inv_here_keeps (length l.objects) l.next n r s e fits numbers) well
+
 pub inv_is_a_step : InvIsAStep
-inv_is_a_step held n l well =
-    let h = inv_keeps n l well in
-    contracts_give_steps held l (inv n l) (edits_keep_interface (inv_here n) l (inv n l) (record { number = refl; params = refl; objects = refl; body = refl })) h.size h.well_formed
-    h.meaning h.list h.program
+inv_is_a_step held n l well = changed_is_a_step (inv_here n) l well (inv_stays n l well) (inv_is_safe n l) held

@@ -11,4 +11,5 @@ mod plan;
 mod rule;
 mod theta;
 
+pub use find::can_redirect;
 pub use rule::{applies, apply};

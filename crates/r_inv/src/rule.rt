@@ -1,19 +1,18 @@
 //! Where the rule applies, and what it does there.
 
-ghost use Rattle.std.specs.Prelude.{◌≡◌, MatchBool, IfOk, OnOk, OnErr, IsTrue};
+ghost use Rattle.std.specs.Prelude.{◌≡◌, List, MatchBool, IfOk, OnOk, OnErr, IsTrue};
 ghost use Rattle.std.specs.declared.option.Option.TheVariants.{Some, None};
+ghost use Rattle.g_graph.specs.Plain.{PlainLambda};
 ghost use Rattle.g_graph.specs.WellFormed.{IsWellFormed};
-ghost use Rattle.g_graph.specs.Program.{lambda_values, KeepsPrograms};
-ghost use Rattle.r_edit.specs.Size.{IsNoLarger};
-ghost use Rattle.g_mean.specs.Edits.{KeepsMeaning, KeepsComplete};
+ghost use Rattle.r_edit.specs.Steps.{MayStandFor};
 ghost use Rattle.r_inv.specs.Rule.{inv_here, applies, inv};
 ghost use Rattle.r_inv.specs.Plan.{carried_out, fits};
 
 use crate::find::{can_redirect, plan_at};
 use crate::plan::Plan;
-use g_graph::{CanChange, Change, Lambda, Region, can_change_lambda, change_lambda};
+use g_graph::{Lambda, Region};
 use no_memory::NoMemory;
-use r_edit::{carry_exits, carry_uses};
+use r_edit::{RegionRule, carry_exits, carry_uses};
 use std::alloc::Global;
 
 /// Whether the rule applies at the node of this number: a Gamma with exits, states too, that in
@@ -24,7 +23,7 @@ use std::alloc::Global;
 pub fn applies(lambda: &Lambda, node: u32) -> bool
     ensures { result ≡ applies lambda.now node }
 {
-    can_change_lambda(lambda, &Redirecting { node })
+    r_edit::applies(&Redirecting { node }, lambda)
 }
 
 /// Uses of each such output become uses of that origin, or of the variable's input; of a Gamma all
@@ -34,45 +33,32 @@ pub fn apply(alloc: Global, lambda: &mut Lambda, node: u32) -> Result<(), NoMemo
     requires well_formed { IsWellFormed lambda.old }
     requires applies { IsTrue (applies lambda.old node) }
     ensures ok { OnOk result (lambda.new ≡ inv node lambda.old) }
-    ensures kept { OnOk result (IsWellFormed lambda.new) }
-    ensures meaning { OnOk result (KeepsMeaning lambda.old lambda.new) }
-    ensures list { OnOk result (KeepsComplete lambda.old lambda.new) }
-    ensures program { OnOk result (KeepsPrograms lambda.old lambda.new) }
-    ensures size { OnOk result (IsNoLarger (lambda_values lambda.old) (lambda_values lambda.new)) }
+    ensures step { OnOk result ((held : List PlainLambda) →
+        MayStandFor held lambda.old lambda.new) }
     ensures err { OnErr result (lambda.new ≡ lambda.old) }
 {
-    change_lambda(lambda, &mut Redirection { alloc, node })?;
-    Ok(())
+    r_edit::apply(&Redirecting { node }, alloc, lambda)
 }
 
-// The test of the region that holds the node.
+// The rule at the node of this number.
 #[derive(Drop)]
 struct Redirecting {
     node: u32,
 }
 
-impl CanChange for Redirecting {
-    ghost changed = { λ e. inv_here e.node };
+impl RegionRule for Redirecting {
+    type Memory = Global;
 
-    fn can_change(&self, region: &Region) -> bool {
-        can_redirect(region, self.node)
-    }
-}
-
-// The change of the region that holds the node.
-#[derive(Drop)]
-struct Redirection {
-    alloc: Global,
-    node: u32,
-}
-
-impl Change for Redirection {
     type Fault = NoMemory;
 
-    ghost changed = { λ e. inv_here e.node };
+    ghost here = { λ r. inv_here r.node };
 
-    fn make(&mut self, region: &mut Region) -> Result<bool, NoMemory> {
-        redirect(self.alloc, region, self.node)
+    fn can(&self, region: &Region) -> bool {
+        can_redirect(region, self.node)
+    }
+
+    fn make(&self, alloc: Global, region: &mut Region) -> Result<bool, NoMemory> {
+        redirect(alloc, region, self.node)
     }
 }
 

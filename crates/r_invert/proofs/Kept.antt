@@ -1,4 +1,4 @@
--- The rule keeps meaning and complete lists, and is a step.
+-- The rule keeps lambdas well formed, and is a step.
 use Rattle.std.specs.Prelude.{◌&&◌, ◌+◌, ◌-◌, ◌^◌, nat_le, unwrap_or}
 use Rattle.std.proofs.Common.{◌≡◌, ℕ, suc, true, List, map, length, Option, None, Some, option_map, refl, sym, ap, subst, ◌∙◌, arith}
 use Rattle.std.proofs.lemmas.Bool.{and_parts}
@@ -9,20 +9,17 @@ use Rattle.g_graph.specs.declared.op.Origin.{Origin}
 use Rattle.g_graph.specs.Plain.{RegionTree, region, no_nodes, node_then, no_regions, region_then, args_of, results_of, nodes_in, PlainLambda}
 use Rattle.g_graph.specs.Count.{region_values, node_values, nodes_values}
 use Rattle.g_graph.specs.Lists.{RegionOps, NodesOps, Calls, NamesGlobal}
-use Rattle.g_graph.specs.Program.{lambda_values, KeepsPrograms}
+use Rattle.g_graph.specs.Program.{lambda_values}
 use Rattle.g_graph.specs.Replace.{region_redirected, nodes_redirected}
 use Rattle.g_graph.specs.Signatures.{result_kinds, kind_of, kind_after}
 use Rattle.g_graph.specs.Splice.{args_to_inputs, outputs_to_results, joined_nodes, region_spliced}
 use Rattle.g_graph.specs.WellFormed.{well_formed, IsWellFormed}
-use Rattle.g_graph.proofs.lemmas.Complete.{complete_set, program_set}
-use Rattle.g_graph.proofs.lemmas.Ops.{redirected_ops, region_redirected_ops, joined_ops, region_spliced_ops, found_ops, changed_ops, split-ops}
+use Rattle.g_graph.proofs.lemmas.Ops.{redirected_ops, region_redirected_ops, joined_ops, region_spliced_ops, found_ops, split-ops}
 use Rattle.g_graph.proofs.lemmas.Redirects.{nodes_values-redirected}
 use Rattle.g_graph.proofs.lemmas.Splices.{nodes_values-joined}
-use Rattle.g_mean.specs.Edits.{IsEdited, KeepsMeaning, KeepsComplete}
-use Rattle.g_mean.proofs.lemmas.Exchange.{edits_keep_meaning}
-use Rattle.r_edit.specs.Size.{IsNoLarger, IsResized, may_change_size}
-use Rattle.r_edit.proofs.lemmas.Size as size
-use Rattle.r_edit.proofs.lemmas.Steps.{contracts_give_steps, edits_keep_interface}
+use Rattle.g_mean.specs.Edits.{IsEdited}
+use Rattle.r_edit.specs.Size.{IsResized, may_change_size}
+use Rattle.r_edit.proofs.lemmas.Steps.{safe_changes_are_steps}
 use Rattle.r_copy.specs.Numbering.{node_count, region_numbered}
 use Rattle.r_copy.proofs.lemmas.Copies.{numbered-ops}
 use Rattle.r_copy.proofs.lemmas.Fits.{copied-nodes-values, copies_count_the_same}
@@ -221,36 +218,12 @@ ivt_well_formed n l w = by (body_inverted n l) refl
     by None e = w
     by (Some s) e = changed-fits (lambda_values l) n l w s e
 
-pub ivt_keeps : (n : ℕ) (l : PlainLambda) → IsWellFormed l → KeepsMeaning l (ivt n l)
-ivt_keeps n l well =
-    edits_keep_meaning (ivt_here (lambda_values l) l.next n) l (ivt n l) well (edited n l) (λ ls ks r s part e. ivt_replaces ls ks (lambda_values l) n l r s part e)
-
-module _ (p : Op → ℕ → Type 0) (gamma : (m : ℕ) → p Gamma m) (theta : (m : ℕ) → p Theta m) where
-  ivt-ops : (n : ℕ) (l : PlainLambda) → RegionOps p l.body → RegionOps p (ivt n l).body
-  ivt-ops n l h =
-      subst (λ r. RegionOps p r) (sym (edited n l).body)
-      (changed_ops p (ivt_here (lambda_values l) l.next n) (λ r s e. here-ops p gamma theta (lambda_values l) l.next n r s e) l h)
-
-calls-stay : (n : ℕ) (l : PlainLambda) (ls : List PlainLambda) → RegionOps (Calls ls) l.body → RegionOps (Calls ls) (ivt n l).body
-calls-stay n l ls h = ivt-ops (Calls ls) (λ m. tt) (λ m. tt) n l h
-
-globals-stay : (n : ℕ) (l : PlainLambda) (count : ℕ) → RegionOps (NamesGlobal count) l.body → RegionOps (NamesGlobal count) (ivt n l).body
-globals-stay n l count h = ivt-ops (NamesGlobal count) (λ m. tt) (λ m. tt) n l h
-
-pub ivt_keeps_lists : (n : ℕ) (l : PlainLambda) → IsWellFormed l → KeepsComplete l (ivt n l)
-ivt_keeps_lists n l well ls f at complete =
-    complete_set l (ivt n l) (ivt_well_formed n l well) (sym (edited n l).number) (sym (edited n l).params) (calls-stay n l) ls f at complete
-
-pub ivt_keeps_program : (n : ℕ) (l : PlainLambda) → IsWellFormed l → KeepsPrograms l (ivt n l)
-ivt_keeps_program n l well =
-    program_set l (ivt n l) (ivt_well_formed n l well) (sym (edited n l).number) (sym (edited n l).params) (calls-stay n l) (globals-stay n l)
-
-pub ivt_is_no_larger : (n : ℕ) (l : PlainLambda) → IsNoLarger (lambda_values l) (lambda_values (ivt n l))
-ivt_is_no_larger n l =
-    subst (λ b. IsNoLarger (lambda_values l) (region_values b)) (sym (edited n l).body)
-    (size.resized_lambdas_are_no_larger (ivt_here (lambda_values l) l.next n) l (here-resized (lambda_values l) l.next n))
-
 pub ivt_is_a_step : IvtIsAStep
 ivt_is_a_step held n l well =
-    contracts_give_steps held l (ivt n l) (edits_keep_interface (ivt_here (lambda_values l) l.next n) l (ivt n l) (edited n l)) (ivt_is_no_larger n l) (ivt_well_formed n l well)
-    (ivt_keeps n l well) (ivt_keeps_lists n l well) (ivt_keeps_program n l well)
+    safe_changes_are_steps (ivt_here (lambda_values l) l.next n) l (ivt n l) well (ivt_well_formed n l well) (edited n l)
+    (record {
+      replaces = λ ls ks r s part e. ivt_replaces ls ks (lambda_values l) n l r s part e;
+      calls = λ ls r s e h. here-ops (Calls ls) (λ m. tt) (λ m. tt) (lambda_values l) l.next n r s e h;
+      names = λ globals r s e h. here-ops (NamesGlobal globals) (λ m. tt) (λ m. tt) (lambda_values l) l.next n r s e h;
+      resized = λ r s e. here-resized (lambda_values l) l.next n r s e;
+    }) held

@@ -1,6 +1,6 @@
 -- The inverted loop in the place of the loop may replace it.
 use Rattle.std.specs.Prelude.{◌&&◌, nat_lt}
-use Rattle.std.proofs.Common.{◌≡◌, ℕ, true, List, [], ◌∷◌, ◌++◌, map, length, Some, slice_get, refl, sym, ap, subst, ◌∙◌, arith}
+use Rattle.std.proofs.Common.{◌≡◌, ℕ, true, List, [], ◌∷◌, ◌++◌, map, length, Some, refl, sym, ap, subst, ◌∙◌, arith}
 use Rattle.std.proofs.lemmas.Bool.{and_parts}
 use Rattle.val_core.specs.declared.values.Value.{Value as Word}
 use Rattle.val_core.specs.Refinement.{Direction, Forward, Backward, Refines, no_deeper}
@@ -13,30 +13,28 @@ use Rattle.g_graph.specs.Scope.{known}
 use Rattle.g_graph.specs.Signatures.{result_kinds}
 use Rattle.g_graph.specs.Replace.{region_redirected}
 use Rattle.g_graph.specs.Splice.{args_to_inputs, joined_nodes, region_spliced}
-use Rattle.g_graph.specs.WellFormed.{all_of, are, distinct, node_fits, region_fits, every_region, every_in_nodes, IsWellFormed}
+use Rattle.g_graph.specs.WellFormed.{all_of, are, distinct, node_fits, region_fits, every_region, every_in_nodes}
 use Rattle.g_graph.proofs.lemmas.Nodes.{each_here}
 use Rattle.g_graph.proofs.lemmas.Splices.{nodes_ids-joined, every_in_nodes-joined}
 use Rattle.g_mean.specs.Data.{Datum}
 use Rattle.g_mean.specs.Meaning.{Context, Outputs, read, region_meaning, node_run}
 use Rattle.g_mean.specs.LessDefined.{Paired, IsLessDefinedDatum}
-use Rattle.g_mean.specs.Refining.{MeaningRefines, ContextRefines, LambdasSameBut}
+use Rattle.g_mean.specs.Refining.{MeaningRefines, ContextRefines}
 use Rattle.g_mean.specs.Replacement.{IsTwice, Linked, Replaces}
 use Rattle.g_mean.specs.Copies.{IsAmong, AreRead, NodesRead, known_after, is_argument}
-use Rattle.g_mean.specs.Edits.{AreEditedAt, IsPartOf}
+use Rattle.g_mean.specs.Edits.{IsPartOf}
 use Rattle.g_mean.specs.Splices.{FitsInto}
 use Rattle.g_mean.proofs.lemmas.Closed.{region-closed}
-use Rattle.g_mean.proofs.lemmas.Edits.{distinct-split, edits_replace}
+use Rattle.g_mean.proofs.lemmas.Edits.{distinct-split}
 use Rattle.g_mean.proofs.lemmas.Inside.{as-many}
 use Rattle.g_mean.proofs.lemmas.Kept.{reads-refines}
 use Rattle.g_mean.proofs.lemmas.LessDefined.{less-kept}
-use Rattle.g_mean.proofs.lemmas.Programs.{programs_keep_meaning}
-use Rattle.g_mean.proofs.lemmas.Replacement.{lambdas_keep_meaning}
 use Rattle.g_mean.proofs.lemmas.Splices.{joined-read, spliced_regions_refine}
 use Rattle.r_edit.proofs.lemmas.AddedFit.{fits-parts}
 use Rattle.r_edit.proofs.lemmas.Loops.{loop_node}
 use Rattle.r_edit.proofs.lemmas.Numbers.{below, among-whole}
-use Rattle.r_invert.specs.Laws.{IsLoopRegion, AreTurnsInverted, IvtReplaces, IvtKeepsLambdas, IvtKeepsPrograms}
-use Rattle.r_invert.specs.Rule.{Parts, parts_of, takes_both_states, inverted, new_nodes, ivt_here}
+use Rattle.r_invert.specs.Laws.{IsLoopRegion, AreTurnsInverted, IvtReplaces}
+use Rattle.r_invert.specs.Rule.{Parts, parts_of, takes_both_states, inverted, new_nodes}
 use Rattle.r_invert.proofs.At.{placed, inverts-at}
 use Rattle.r_invert.proofs.First.{LoopSays, loop-says, inverted_loops_refine}
 use Rattle.r_invert.proofs.PartsFit.{NodeSays, node-says}
@@ -154,18 +152,3 @@ ivt_replaces ls ks values n l (region args nodes results) s part e =
     subst (λ t. Replaces ls ks (region args nodes results) t) (sym at.result)
     (subst (λ ns. Replaces ls ks (region args ns results) (region_spliced n (placed l.next at.inputs at.parts) (region args ns results))) (sym whole)
     (replaces ls ks n l args at.split.before at.inputs at.body at.split.after results at.parts at.form (subst (λ ns. IsPartOf l (region args ns results)) whole part) (inverted l.next at.parts) refl))
-
--- ---- lists of lambdas
-
-module _ (ls ks : List PlainLambda) (values next n f : ℕ) (edited : AreEditedAt (ivt_here values next n) f ls ks)
-    (each : (l : PlainLambda) → slice_get ls f ≡ Some l → IsWellFormed l × (l.next ≡ next)) where
-  same-but : LambdasSameBut (Replaces ls ks) ls ks
-  same-but =
-      edits_replace ls ks (ivt_here values next n) f edited (λ l at. (each l at).0)
-      (λ l r s at part e. ivt_replaces ls ks values n l r s part (ap (λ m. ivt_here values m n r) (each l at).1 ∙ e))
-
-pub ivt_keeps_lambdas : IvtKeepsLambdas
-ivt_keeps_lambdas ls ks values next n f edited each = lambdas_keep_meaning ls ks (same-but ls ks values next n f edited each)
-
-pub ivt_keeps_programs : IvtKeepsPrograms
-ivt_keeps_programs ls ks values next n f edited each = programs_keep_meaning ls ks (same-but ls ks values next n f edited each)

@@ -1,5 +1,5 @@
 -- Inversion keeps meaning.
-use Rattle.std.specs.Prelude.{◌≡◌, ◌==◌, ℕ, suc, ◌≤◌, IsTrue, if◌then◌else◌, List, [], ◌∷◌, Some, slice_get}
+use Rattle.std.specs.Prelude.{◌≡◌, ◌==◌, ℕ, suc, ◌≤◌, IsTrue, if◌then◌else◌, List, [], ◌∷◌, Some}
 use Rattle.val_core.specs.Answers.{Undefined, then_on, on_number}
 use Rattle.val_core.specs.Refinement.{Direction, Forward, Backward, Refines, no_deeper}
 use Rattle.g_graph.specs.declared.op.Kind.TheVariants.{Value}
@@ -11,8 +11,8 @@ use Rattle.g_mean.specs.Data.{Datum, value_of}
 use Rattle.g_mean.specs.Meaning.{Meaning, Context, turns, region_meaning}
 use Rattle.g_mean.specs.LessDefined.{Paired, IsLessDefinedDatum}
 use Rattle.g_mean.specs.Refining.{ContextRefines}
-use Rattle.g_mean.specs.Edits.{AreEditedAt, IsPartOf}
-use Rattle.g_mean.specs.Replacement.{Replaces, FunctionsKeepMeaning, ProgramKeepsMeaning}
+use Rattle.g_mean.specs.Edits.{IsPartOf}
+use Rattle.g_mean.specs.Replacement.{Replaces}
 use Rattle.r_edit.specs.Steps.{MayStandFor}
 use Rattle.r_invert.specs.Rule.{Parts, parts_of, inverted, takes_both_states, ivt_here, ivt}
 
@@ -57,18 +57,6 @@ InvertedLoopsRefine =
 abbrev pub IvtReplaces : Type 0
 IvtReplaces =
     (ls ks : List PlainLambda) (values n : ℕ) (l : PlainLambda) (r s : RegionTree) → IsPartOf l r → ivt_here values l.next n r ≡ Some s → Replaces ls ks r s
-
--- Where the well-formed lambda of one function is changed at a node, every function keeps its meaning,
-abbrev pub IvtKeepsLambdas : Type 0
-IvtKeepsLambdas =
-    (ls ks : List PlainLambda) (values next n f : ℕ) → AreEditedAt (ivt_here values next n) f ls ks → ((l : PlainLambda) → slice_get ls f ≡ Some l → IsWellFormed l × (l.next ≡ next)) →
-    FunctionsKeepMeaning ls ks
-
--- and so does the program.
-abbrev pub IvtKeepsPrograms : Type 0
-IvtKeepsPrograms =
-    (ls ks : List PlainLambda) (values next n f : ℕ) → AreEditedAt (ivt_here values next n) f ls ks → ((l : PlainLambda) → slice_get ls f ≡ Some l → IsWellFormed l × (l.next ≡ next)) →
-    ProgramKeepsMeaning ls ks
 
 -- The rule is a step: the lambda stays well formed, may stand for the old one in any list, and is no larger or small.
 abbrev pub IvtIsAStep : Type 0

@@ -1,6 +1,6 @@
 //! Inversion keeps meaning.
 
-ghost use Rattle.r_invert.specs.Laws.{InvertedLoopsTestFirst, InvertedLoopsRefine, IvtReplaces, IvtKeepsLambdas, IvtKeepsPrograms, IvtIsAStep};
+ghost use Rattle.r_invert.specs.Laws.{InvertedLoopsTestFirst, InvertedLoopsRefine, IvtReplaces, IvtIsAStep};
 
 /// An inverted loop tests, and where the test holds does turns that end with the test, and then
 /// what the loop does where it fails. So at most n turns of a loop are within n turns of the
@@ -10,15 +10,9 @@ pub fn inverted_loops_refine()
     ensures turns { InvertedLoopsRefine }
 {}
 
-/// A changed region of a well-formed lambda may replace the old one in any lambdas.
-pub fn ivt_replaces()
-    ensures { IvtReplaces }
-{}
-
-/// The rule at a node of a well-formed lambda keeps the meaning of every function, and of the
-/// program; it is a step.
+/// A changed region of a well-formed lambda may replace the old one; the rule at a node of a
+/// well-formed lambda is a step, whatever lambdas are held.
 pub fn ivt_keeps_meaning()
-    ensures lambda { IvtKeepsLambdas }
-    ensures program { IvtKeepsPrograms }
+    ensures replaces { IvtReplaces }
     ensures step { IvtIsAStep }
 {}

@@ -1,8 +1,7 @@
 -- The rule is a step.
 use Rattle.std.specs.Prelude.{unwrap_or}
-use Rattle.std.proofs.Common.{◌≡◌, ◌+◌, ℕ, ◌⊎◌, true, ◌&&◌, List, [], ◌∷◌, length, slice_get, Option, None, Some, refl, sym, ap, subst, ◌∙◌, inl, inr, arith}
+use Rattle.std.proofs.Common.{◌≡◌, ◌+◌, ℕ, ◌⊎◌, true, ◌&&◌, List, [], ◌∷◌, length, Option, None, Some, refl, sym, ap, subst, ◌∙◌, inl, inr, arith}
 use Rattle.std.proofs.lemmas.Bool.{and_parts}
-use Rattle.std.proofs.lemmas.Option.{same_Some}
 use Rattle.g_graph.specs.declared.op.Kind.{Kind}
 use Rattle.g_graph.specs.declared.op.Op.{Op}
 use Rattle.g_graph.specs.declared.op.Op.TheVariants.{Gamma}
@@ -10,33 +9,25 @@ use Rattle.g_graph.specs.declared.op.Origin.{Origin}
 use Rattle.g_graph.specs.Plain.{RegionTree, region, NodeTree, node, NodeTrees, node_then, no_regions, PlainLambda}
 use Rattle.g_graph.specs.Ids.{region_ids}
 use Rattle.g_graph.specs.Change.{region_changed}
-use Rattle.g_graph.specs.Lists.{RegionOps, Calls, NamesGlobal}
+use Rattle.g_graph.specs.Lists.{Calls, NamesGlobal}
 use Rattle.g_graph.specs.Nodes.{node_at}
-use Rattle.g_graph.specs.Program.{lambda_values, KeepsPrograms}
+use Rattle.g_graph.specs.Program.{lambda_values}
 use Rattle.g_graph.specs.Splice.{joined_nodes}
 use Rattle.g_graph.specs.WellFormed.{well_formed, body_fits, numbers_fit, region_fits, every_region, IsWellFormed}
-use Rattle.g_graph.proofs.lemmas.Complete.{complete_set, program_set}
 use Rattle.g_graph.proofs.lemmas.Found.{found_at}
 use Rattle.g_graph.proofs.lemmas.Nests.{changed_well_formed, numbers_numbered}
 use Rattle.g_graph.proofs.lemmas.Numbers.{Numbered}
-use Rattle.g_graph.proofs.lemmas.Ops.{changed_ops}
 use Rattle.g_mean.specs.Copies.{IsAmong, known_after, is_argument}
-use Rattle.g_mean.specs.Edits.{IsPartOf, IsEdited, KeepsMeaning, KeepsComplete}
+use Rattle.g_mean.specs.Edits.{IsPartOf, IsEdited}
 use Rattle.g_mean.specs.Replacement.{Replaces}
 use Rattle.g_mean.proofs.lemmas.Closed.{region-closed}
-use Rattle.g_mean.proofs.lemmas.Edits.{edits_replace}
-use Rattle.g_mean.proofs.lemmas.Exchange.{edits_keep_meaning}
-use Rattle.g_mean.proofs.lemmas.Programs.{programs_keep_meaning}
-use Rattle.g_mean.proofs.lemmas.Replacement.{lambdas_keep_meaning}
 use Rattle.g_mean.proofs.lemmas.Splices.{joined-read}
 use Rattle.r_edit.specs.Uses.{nodes_read, is_output_of}
 use Rattle.r_edit.specs.Removal.{nodes_without}
-use Rattle.r_edit.specs.Size.{IsNoLarger}
-use Rattle.r_edit.proofs.lemmas.Size as size
-use Rattle.r_edit.proofs.lemmas.Steps.{contracts_give_steps, edits_keep_interface}
+use Rattle.r_edit.proofs.lemmas.Steps.{safe_changes_are_steps}
 use Rattle.r_edit.proofs.lemmas.Swapped.{RegionStays}
 use Rattle.r_pull.specs.Rule.{copies_of, gamma_pulled, pll_here, copies_here, copies_at, pll}
-use Rattle.r_pull.specs.Laws.{PllReplaces, PllKeepsLambdas, PllKeepsPrograms, PllIsAStep}
+use Rattle.r_pull.specs.Laws.{PllReplaces, PllIsAStep}
 use Rattle.r_pull.proofs.Answered.{numbered-more, Answers, region_silent, region_answers}
 use Rattle.r_pull.proofs.Kept.{gamma-kept, gamma-replaces}
 use Rattle.r_pull.proofs.PulledOps.{here-ops}
@@ -152,43 +143,12 @@ pll_well_formed n l w = by_change (region_changed (here n l) l.body) refl
 edited : (n : ℕ) (l : PlainLambda) → IsEdited (here n l) l (pll n l)
 edited n l = record { number = refl; params = refl; objects = refl; body = refl }
 
-pub pll_keeps : (n : ℕ) (l : PlainLambda) → IsWellFormed l → KeepsMeaning l (pll n l)
-pll_keeps n l well =
-    edits_keep_meaning (here n l) l (pll n l) well (edited n l) (λ ls ks r s part e. pll_replaces ls ks (lambda_values l) n l r s part e)
-
-calls-stay : (n : ℕ) (l : PlainLambda) (ks : List PlainLambda) → RegionOps (Calls ks) l.body → RegionOps (Calls ks) (pll n l).body
-calls-stay n l ks h = changed_ops (Calls ks) (here n l) (here-ops (Calls ks) (λ m k d. d) (lambda_values l) l.next n) l h
-
-globals-stay : (n : ℕ) (l : PlainLambda) (count : ℕ) → RegionOps (NamesGlobal count) l.body → RegionOps (NamesGlobal count) (pll n l).body
-globals-stay n l count h = changed_ops (NamesGlobal count) (here n l) (here-ops (NamesGlobal count) (λ m k d. d) (lambda_values l) l.next n) l h
-
-pub pll_keeps_lists : (n : ℕ) (l : PlainLambda) → IsWellFormed l → KeepsComplete l (pll n l)
-pll_keeps_lists n l well ls f at complete = complete_set l (pll n l) (pll_well_formed n l well) refl refl (calls-stay n l) ls f at complete
-
-pub pll_keeps_program : (n : ℕ) (l : PlainLambda) → IsWellFormed l → KeepsPrograms l (pll n l)
-pll_keeps_program n l well = program_set l (pll n l) (pll_well_formed n l well) refl refl (calls-stay n l) (globals-stay n l)
-
-pub pll_is_no_larger : (n : ℕ) (l : PlainLambda) → IsNoLarger (lambda_values l) (lambda_values (pll n l))
-pll_is_no_larger n l = size.resized_lambdas_are_no_larger (here n l) l (λ r s e. pll_resizes (lambda_values l) l.next n r s e)
-
--- the changed region of the one lambda
-replaced-in : (ls ks : List PlainLambda) (values n f : ℕ) (l : PlainLambda) → slice_get ls f ≡ Some l → (k : PlainLambda) (r s : RegionTree) → slice_get ls f ≡ Some k → IsPartOf k r →
-    pll_here values l.next n r ≡ Some s → Replaces ls ks r s
-replaced-in ls ks values n f l at k r s found part e =
-    let same : k ≡ l = same_Some k l (sym found ∙ at) in
-    pll_replaces ls ks values n l r s (subst (λ (j : PlainLambda). IsPartOf j r) same part) e
-
-pub pll_keeps_lambdas : PllKeepsLambdas
-pll_keeps_lambdas ls ks values n f l at well edit =
-    lambdas_keep_meaning ls ks (edits_replace ls ks (pll_here values l.next n) f edit (λ k found. subst (λ (j : PlainLambda). IsWellFormed j) (same_Some l k (sym at ∙ found)) well)
-    (λ k r s found part e. replaced-in ls ks values n f l at k r s found part e))
-
-pub pll_keeps_programs : PllKeepsPrograms
-pll_keeps_programs ls ks values n f l at well edit =
-    programs_keep_meaning ls ks (edits_replace ls ks (pll_here values l.next n) f edit (λ k found. subst (λ (j : PlainLambda). IsWellFormed j) (same_Some l k (sym at ∙ found)) well)
-    (λ k r s found part e. replaced-in ls ks values n f l at k r s found part e))
-
 pub pll_is_a_step : PllIsAStep
 pll_is_a_step held n l well =
-    contracts_give_steps held l (pll n l) (edits_keep_interface (here n l) l (pll n l) (edited n l)) (pll_is_no_larger n l) (pll_well_formed n l well)
-    (pll_keeps n l well) (pll_keeps_lists n l well) (pll_keeps_program n l well)
+    safe_changes_are_steps (here n l) l (pll n l) well (pll_well_formed n l well) (edited n l)
+    (record {
+      replaces = λ ls ks r s part e. pll_replaces ls ks (lambda_values l) n l r s part e;
+      calls = λ ls r s e h. here-ops (Calls ls) (λ m k d. d) (lambda_values l) l.next n r s e h;
+      names = λ globals r s e h. here-ops (NamesGlobal globals) (λ m k d. d) (lambda_values l) l.next n r s e h;
+      resized = λ r s e. pll_resizes (lambda_values l) l.next n r s e;
+    }) held

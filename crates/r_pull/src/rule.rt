@@ -1,12 +1,10 @@
 //! Where the rule applies, and what it does there.
 
-ghost use Rattle.std.specs.Prelude.{◌≡◌, ◌≤◌, ◌+◌, IfSome, IfOk, OnOk, OnErr, IsTrue};
+ghost use Rattle.std.specs.Prelude.{◌≡◌, ◌≤◌, ◌+◌, List, IfSome, IfOk, OnOk, OnErr, IsTrue};
 ghost use Rattle.std.specs.declared.option.Option.TheVariants.{Some, None};
-ghost use Rattle.g_graph.specs.Plain.{nodes_in};
-ghost use Rattle.g_graph.specs.Program.{lambda_values, KeepsPrograms};
+ghost use Rattle.g_graph.specs.Plain.{nodes_in, PlainLambda};
 ghost use Rattle.g_graph.specs.WellFormed.{IsWellFormed};
-ghost use Rattle.g_mean.specs.Edits.{KeepsMeaning, KeepsComplete};
-ghost use Rattle.r_edit.specs.Size.{IsNoLarger};
+ghost use Rattle.r_edit.specs.Steps.{MayStandFor};
 ghost use Rattle.r_pull.specs.Rule.{copies_here, pll_here, region_answer, node_answer, copies_at, applies, most_next, pll};
 ghost use Rattle.r_pull.specs.Edit.{planned, FitsPlanned};
 
@@ -37,11 +35,8 @@ pub fn apply(alloc: Global, lambda: &mut Lambda, node: u32) -> Result<(), NoMemo
     requires well_formed { IsWellFormed lambda.old }
     requires applies { IsTrue (applies lambda.old node) }
     ensures ok { OnOk result (lambda.new ≡ pll node lambda.old) }
-    ensures kept { OnOk result (IsWellFormed lambda.new) }
-    ensures meaning { OnOk result (KeepsMeaning lambda.old lambda.new) }
-    ensures list { OnOk result (KeepsComplete lambda.old lambda.new) }
-    ensures program { OnOk result (KeepsPrograms lambda.old lambda.new) }
-    ensures size { OnOk result (IsNoLarger (lambda_values lambda.old) (lambda_values lambda.new)) }
+    ensures step { OnOk result ((held : List PlainLambda) →
+        MayStandFor held lambda.old lambda.new) }
     ensures err { OnErr result (lambda.new ≡ lambda.old) }
 {
     let Some(copies) = copies_at(lambda, node) else {

@@ -1,6 +1,5 @@
--- The rule keeps lambdas well formed and lists complete, and is a step.
+-- The rule keeps lambdas well formed, and is a step.
 use Rattle.std.specs.Option.{option_or}
-use Rattle.std.specs.Prelude.{unwrap_or}
 use Rattle.std.proofs.Common.{◌≡◌, ℕ, Bool, true, List, [], ◌∷◌, length, Option, None, Some, option_map, refl, sym, subst, ◌∙◌}
 use Rattle.std.proofs.lemmas.List.{length-map}
 use Rattle.std.proofs.lemmas.Option.{same_Some}
@@ -11,26 +10,21 @@ use Rattle.g_graph.specs.declared.op.Origin.{Origin}
 use Rattle.g_graph.specs.declared.op.Origin.TheVariants.{Arg, Out}
 use Rattle.g_graph.specs.Plain.{RegionTree, region, NodeTree, node, NodeTrees, node_then, RegionTrees, no_regions, region_then, PlainLambda}
 use Rattle.g_graph.specs.Ids.{region_ids}
-use Rattle.g_graph.specs.Change.{region_changed}
 use Rattle.g_graph.specs.Lists.{RegionOps, NodeOps, NodesOps, RegionsOps, Calls, NamesGlobal}
-use Rattle.g_graph.specs.Program.{lambda_values, KeepsPrograms}
+use Rattle.g_graph.specs.Program.{lambda_values}
 use Rattle.g_graph.specs.Replace.{region_redirected, origin_replaced}
 use Rattle.g_graph.specs.Splice.{args_to_inputs, joined_nodes}
-use Rattle.g_graph.specs.WellFormed.{well_formed, region_fits, every_region, IsWellFormed}
-use Rattle.g_graph.proofs.lemmas.Complete.{complete_set, program_set}
-use Rattle.g_graph.proofs.lemmas.Nests.{changed_well_formed_within}
+use Rattle.g_graph.specs.WellFormed.{region_fits, every_region, IsWellFormed}
 use Rattle.g_graph.proofs.lemmas.Nodes.{KeptWithin}
 use Rattle.g_graph.proofs.lemmas.Numbers.{Numbered}
-use Rattle.g_graph.proofs.lemmas.Ops.{region_redirected_ops, joined_ops, changed_ops, split-ops}
-use Rattle.g_mean.specs.Edits.{IsPartOf, IsEdited, KeepsMeaning, KeepsComplete}
+use Rattle.g_graph.proofs.lemmas.Ops.{region_redirected_ops, joined_ops, split-ops}
+use Rattle.g_mean.specs.Edits.{IsPartOf}
 use Rattle.g_mean.proofs.lemmas.Closed.{region-closed}
-use Rattle.g_mean.proofs.lemmas.Exchange.{edits_keep_meaning}
-use Rattle.r_edit.specs.Size.{IsNoLarger}
 use Rattle.r_edit.specs.Added.{arg_added, input_added}
 use Rattle.r_edit.proofs.lemmas.Removal.{without_ops}
-use Rattle.r_edit.proofs.lemmas.Size as size
-use Rattle.r_edit.proofs.lemmas.Steps.{contracts_give_steps, edits_keep_interface}
-use Rattle.r_push.specs.Rule.{names_argument, leaving, leaving_one, leaving_loop, carried, regions_carried, looped, placed, pushed, psh_here, psh, is_invariant}
+use Rattle.r_edit.specs.Steps.{IsSafeChange}
+use Rattle.r_edit.proofs.lemmas.Steps.{kept_well_formed, changed_is_a_step}
+use Rattle.r_push.specs.Rule.{names_argument, leaving, leaving_one, leaving_loop, carried, regions_carried, looped, placed, pushed, psh_here, is_invariant, psh}
 use Rattle.r_push.specs.Laws.{PshIsAStep}
 use Rattle.r_push.proofs.Leaving.{Leaves, leaves}
 use Rattle.r_push.proofs.Replaced.{changed-at, psh_replaces}
@@ -48,15 +42,6 @@ here-keeps l values n (region args ns results) s e fits numbers =
     subst (λ ms. KeptWithin (length l.objects) (region args ms results) s) (sym at.is)
     (subst (λ t. KeptWithin (length l.objects) (region args (joined_nodes at.before (node_then at.left at.after)) results) t) (sym at.result)
     (left-fits l args at.before at.left at.after results (subst (λ ms. IsPartOf l (region args ms results)) at.is part) n at.two at.gives))
-
-pub psh_well_formed : (n : ℕ) (l : PlainLambda) → IsWellFormed l → IsWellFormed (psh n l)
-psh_well_formed n l w = by_change (region_changed (psh_here (lambda_values l) n) l.body) refl
-  where
-    by_change : (o : Option RegionTree) → region_changed (psh_here (lambda_values l) n) l.body ≡ o → well_formed (record l { body = unwrap_or o l.body }) ≡ true
-    by_change None e = w
-    by_change (Some s) e =
-        changed_well_formed_within (psh_here (lambda_values l) n) l s (record { kept = λ r t q fits numbers. (here-keeps l (lambda_values l) n r t q fits numbers).kept })
-        (λ r t q fits numbers. (here-keeps l (lambda_values l) n r t q fits numbers).fewer) e w
 
 -- ---- no op is added
 
@@ -130,34 +115,19 @@ module _ (p : Op → ℕ → Type 0) (gamma : (m k : ℕ) → p Gamma m → p Ga
       subst (λ t. RegionOps p t) (sym at.result)
       (joined_ops p at.before (joined_nodes at.two at.after) parts.0 (joined_ops p at.two at.after (left-ops n at.left at.two at.gives parts.1.0) parts.1.1))
 
--- ---- the lambda
+-- ---- the step
 
-edited : (n : ℕ) (l : PlainLambda) → IsEdited (psh_here (lambda_values l) n) l (psh n l)
-edited n l = record { number = refl; params = refl; objects = refl; body = refl }
+pub psh_is_safe : (n : ℕ) (l : PlainLambda) → IsSafeChange (psh_here (lambda_values l) n) l
+psh_is_safe n l =
+    record {
+      replaces = λ ls ks r s part e. psh_replaces ls ks (lambda_values l) n l r s part e;
+      calls = λ ls r s e h. here-ops (Calls ls) (λ m k d. d) (λ m k d. d) (lambda_values l) n r s e h;
+      names = λ globals r s e h. here-ops (NamesGlobal globals) (λ m k d. d) (λ m k d. d) (lambda_values l) n r s e h;
+      resized = λ r s e. psh_resizes (lambda_values l) n r s e;
+    }
 
-pub psh_keeps : (n : ℕ) (l : PlainLambda) → IsWellFormed l → KeepsMeaning l (psh n l)
-psh_keeps n l well =
-    edits_keep_meaning (psh_here (lambda_values l) n) l (psh n l) well (edited n l) (λ ls ks r s part e. psh_replaces ls ks (lambda_values l) n l r s part e)
-
-calls-stay : (n : ℕ) (l : PlainLambda) (ks : List PlainLambda) → RegionOps (Calls ks) l.body → RegionOps (Calls ks) (psh n l).body
-calls-stay n l ks h =
-    changed_ops (Calls ks) (psh_here (lambda_values l) n) (here-ops (Calls ks) (λ m k d. d) (λ m k d. d) (lambda_values l) n) l h
-
-globals-stay : (n : ℕ) (l : PlainLambda) (count : ℕ) → RegionOps (NamesGlobal count) l.body → RegionOps (NamesGlobal count) (psh n l).body
-globals-stay n l count h =
-    changed_ops (NamesGlobal count) (psh_here (lambda_values l) n) (here-ops (NamesGlobal count) (λ m k d. d) (λ m k d. d) (lambda_values l) n) l h
-
-pub psh_keeps_lists : (n : ℕ) (l : PlainLambda) → IsWellFormed l → KeepsComplete l (psh n l)
-psh_keeps_lists n l well ls f at complete =
-    complete_set l (psh n l) (psh_well_formed n l well) refl refl (calls-stay n l) ls f at complete
-
-pub psh_keeps_program : (n : ℕ) (l : PlainLambda) → IsWellFormed l → KeepsPrograms l (psh n l)
-psh_keeps_program n l well = program_set l (psh n l) (psh_well_formed n l well) refl refl (calls-stay n l) (globals-stay n l)
-
-pub psh_is_no_larger : (n : ℕ) (l : PlainLambda) → IsNoLarger (lambda_values l) (lambda_values (psh n l))
-psh_is_no_larger n l = size.resized_lambdas_are_no_larger (psh_here (lambda_values l) n) l (λ r s e. psh_resizes (lambda_values l) n r s e)
+pub psh_stays : (n : ℕ) (l : PlainLambda) → IsWellFormed l → IsWellFormed (psh n l)
+psh_stays n l well = kept_well_formed (psh_here (lambda_values l) n) l (λ r s e fits numbers. here-keeps l (lambda_values l) n r s e fits numbers) well
 
 pub psh_is_a_step : PshIsAStep
-psh_is_a_step held n l well =
-    contracts_give_steps held l (psh n l) (edits_keep_interface (psh_here (lambda_values l) n) l (psh n l) (edited n l)) (psh_is_no_larger n l) (psh_well_formed n l well)
-    (psh_keeps n l well) (psh_keeps_lists n l well) (psh_keeps_program n l well)
+psh_is_a_step held n l well = changed_is_a_step (psh_here (lambda_values l) n) l well (psh_stays n l well) (psh_is_safe n l) held

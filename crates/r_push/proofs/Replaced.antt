@@ -26,17 +26,15 @@ use Rattle.g_mean.specs.Copies.{IsAmong, AreRead, NodesRead, known_after, is_arg
 use Rattle.g_mean.specs.Edits.{IsPartOf}
 use Rattle.g_mean.specs.Replacement.{Replaces}
 use Rattle.g_mean.proofs.lemmas.Copies.{Equals, among-left, same-change, equal-same}
-use Rattle.g_mean.proofs.lemmas.Edits.{distinct-split, edits_replace}
+use Rattle.g_mean.proofs.lemmas.Edits.{distinct-split}
 use Rattle.g_mean.proofs.lemmas.Holds.{distinct-apart}
 use Rattle.g_mean.proofs.lemmas.Inside.{node-here, as-many, inputs-read, regions-closed, inner-distinct}
-use Rattle.g_mean.proofs.lemmas.Programs.{programs_keep_meaning}
-use Rattle.g_mean.proofs.lemmas.Replacement.{lambdas_keep_meaning}
 use Rattle.g_mean.proofs.lemmas.Splices.{joined-known, joined-read, known-among}
 use Rattle.r_edit.specs.Added.{input_added}
 use Rattle.r_edit.specs.Uses.{is_read, is_output_of}
 use Rattle.r_edit.specs.Size.{may_change_size}
 use Rattle.r_push.specs.Rule.{names_argument, leaving, leaving_one, is_invariant, leaving_loop, regions_carried, looped, placed, growth, can_count, pushed, pushed_within, nodes_pushed, psh_here}
-use Rattle.r_push.specs.Laws.{PshReplaces, PshKeepsLambdas, PshKeepsPrograms}
+use Rattle.r_push.specs.Laws.{PshReplaces}
 use Rattle.r_push.proofs.Stays.{known-own, region-unread}
 use Rattle.r_push.proofs.Leaving.{Leaves, leaves, Gives, gives-both}
 use Rattle.r_push.proofs.Gammas.{AllTake, leaving-among, one-among, all-mean, gamma-same}
@@ -378,11 +376,3 @@ psh_replaces ls ks values n l (region args ns results) s part e =
     subst (λ ms. Replaces ls ks (region args ms results) s) (sym at.is)
     (subst (λ t. Replaces ls ks (region args (joined_nodes at.before (node_then at.left at.after)) results) t) (sym at.result)
     (left-replaces l args at.before at.left at.after results (subst (λ ms. IsPartOf l (region args ms results)) at.is part) n at.two at.gives ls ks))
-
-pub psh_keeps_lambdas : PshKeepsLambdas
-psh_keeps_lambdas ls ks values n f edited well =
-    lambdas_keep_meaning ls ks (edits_replace ls ks (psh_here values n) f edited well (λ l r s found part e. psh_replaces ls ks values n l r s part e))
-
-pub psh_keeps_programs : PshKeepsPrograms
-psh_keeps_programs ls ks values n f edited well =
-    programs_keep_meaning ls ks (edits_replace ls ks (psh_here values n) f edited well (λ l r s found part e. psh_replaces ls ks values n l r s part e))

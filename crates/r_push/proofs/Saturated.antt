@@ -22,6 +22,10 @@ here-same v n (region args nodes results) = ap (option_map (λ ns. region args n
 pub limit_same : (v n : ℕ) → psh_here (saturated v) n ≡ psh_here v n
 limit_same v n = fun_ext (λ r. here-same v n r)
 
--- the lambda that the code makes
+-- the change that the code makes
+pub limit_of : (v n : ℕ) (l : PlainLambda) → v ≡ saturated (lambda_values l) → psh_here v n ≡ psh_here (lambda_values l) n
+limit_of v n l e = ap (λ u. psh_here u n) e ∙ limit_same (lambda_values l) n
+
+-- and the lambda
 pub changed_same : (v n : ℕ) (l k : PlainLambda) → v ≡ saturated (lambda_values l) → k ≡ lambda_changed (psh_here v n) l → k ≡ psh n l
-changed_same v n l k e d = d ∙ ap (λ h. lambda_changed h l) (ap (λ u. psh_here u n) e ∙ limit_same (lambda_values l) n)
+changed_same v n l k e d = d ∙ ap (λ h. lambda_changed h l) (limit_of v n l e)

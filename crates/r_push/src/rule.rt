@@ -1,16 +1,16 @@
 //! Where the rule applies, and what it does there.
 
-ghost use Rattle.std.specs.Prelude.{◌≡◌, OnOk, OnErr, IsTrue};
-ghost use Rattle.g_graph.specs.Program.{lambda_values, KeepsPrograms};
+ghost use Rattle.std.specs.Prelude.{◌≡◌, List, OnOk, OnErr, IsTrue};
+ghost use Rattle.g_graph.specs.Plain.{PlainLambda};
 ghost use Rattle.g_graph.specs.WellFormed.{IsWellFormed};
-ghost use Rattle.g_mean.specs.Edits.{KeepsMeaning, KeepsComplete};
-ghost use Rattle.r_edit.specs.Size.{IsNoLarger};
+ghost use Rattle.r_edit.specs.Steps.{MayStandFor};
 ghost use Rattle.r_push.specs.Rule.{psh_here, applies, psh};
 
 use crate::find::can_push;
 use crate::push::push;
-use g_graph::{CanChange, Change, Lambda, Region, can_change_lambda, change_lambda, values};
+use g_graph::{Lambda, Region, values};
 use no_memory::NoMemory;
+use r_edit::RegionRule;
 use std::alloc::Global;
 
 /// Whether the rule applies at the node of this number: a Const, Undef, Local, Delta, Bin or Un
@@ -21,12 +21,12 @@ use std::alloc::Global;
 pub fn applies(lambda: &Lambda, node: u32) -> bool
     ensures { result ≡ applies lambda.now node }
 {
-    can_change_lambda(
-        lambda,
-        &Pushed {
+    r_edit::applies(
+        &Pushing {
             values: values(lambda),
             node,
         },
+        lambda,
     )
 }
 
@@ -38,55 +38,34 @@ pub fn apply(alloc: Global, lambda: &mut Lambda, node: u32) -> Result<(), NoMemo
     requires well_formed { IsWellFormed lambda.old }
     requires applies { IsTrue (applies lambda.old node) }
     ensures ok { OnOk result (lambda.new ≡ psh node lambda.old) }
-    ensures kept { OnOk result (IsWellFormed lambda.new) }
-    ensures meaning { OnOk result (KeepsMeaning lambda.old lambda.new) }
-    ensures list { OnOk result (KeepsComplete lambda.old lambda.new) }
-    ensures program { OnOk result (KeepsPrograms lambda.old lambda.new) }
-    ensures size { OnOk result (IsNoLarger (lambda_values lambda.old) (lambda_values lambda.new)) }
+    ensures step { OnOk result ((held : List PlainLambda) →
+        MayStandFor held lambda.old lambda.new) }
     ensures err { OnErr result (lambda.new ≡ lambda.old) }
 {
     let values = values(lambda);
-    change_lambda(
-        lambda,
-        &mut Pushing {
-            alloc,
-            values,
-            node,
-        },
-    )?;
+    r_edit::apply(&Pushing { values, node }, alloc, lambda)?;
     Ok(())
 }
 
-// The change of the region that holds the Gamma or Theta.
+// The rule at the node of this number, in a lambda of so many values.
 #[derive(Drop)]
 struct Pushing {
-    alloc: Global,
     values: u64,
     node: u32,
 }
 
-impl Change for Pushing {
+impl RegionRule for Pushing {
+    type Memory = Global;
+
     type Fault = NoMemory;
 
-    ghost changed = { λ c. psh_here c.values c.node };
+    ghost here = { λ r. psh_here r.values r.node };
 
-    fn make(&mut self, region: &mut Region) -> Result<bool, NoMemory> {
-        push(self.alloc, region, self.values, self.node)
-    }
-}
-
-// The test for the change of the region that holds the Gamma or Theta, in a lambda of so many
-// values.
-#[derive(Drop)]
-struct Pushed {
-    values: u64,
-    node: u32,
-}
-
-impl CanChange for Pushed {
-    ghost changed = { λ c. psh_here c.values c.node };
-
-    fn can_change(&self, region: &Region) -> bool {
+    fn can(&self, region: &Region) -> bool {
         can_push(region, self.values, self.node)
+    }
+
+    fn make(&self, alloc: Global, region: &mut Region) -> Result<bool, NoMemory> {
+        push(alloc, region, self.values, self.node)
     }
 }

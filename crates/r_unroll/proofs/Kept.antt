@@ -1,4 +1,4 @@
--- The rule keeps lambdas well formed and lists complete, and is a step.
+-- The rule keeps lambdas well formed, and is a step.
 use Rattle.std.specs.Prelude.{◌&&◌, ◌+◌, ◌-◌, ◌^◌, nat_le, not, nat_lt, unwrap_or}
 use Rattle.std.proofs.Common.{◌≡◌, ℕ, suc, Bool, true, List, [], ◌∷◌, ◌++◌, append_assoc, append-nil, map, length, Option, None, Some, refl, sym, ap, subst, ◌∙◌, arith}
 use Rattle.std.proofs.lemmas.Bool.{and_parts}
@@ -15,30 +15,27 @@ use Rattle.g_graph.specs.Change.{region_changed}
 use Rattle.g_graph.specs.Count.{region_values, nodes_values}
 use Rattle.g_graph.specs.Ids.{region_ids, nodes_ids}
 use Rattle.g_graph.specs.Lists.{RegionOps, Calls, NamesGlobal}
-use Rattle.g_graph.specs.Program.{lambda_values, KeepsPrograms}
+use Rattle.g_graph.specs.Program.{lambda_values}
 use Rattle.g_graph.specs.Scope.{known}
 use Rattle.g_graph.specs.Signatures.{result_kinds}
 use Rattle.g_graph.specs.Splice.{joined_nodes}
 use Rattle.g_graph.specs.WellFormed.{all_of, distinct, are, inputs_fit, inputs_are_last, node_has_one_state_each, has_its_regions, theta_has_states, has_its_width}
 use Rattle.g_graph.specs.WellFormed.{has_its_object, node_fits, leaves_fit, body_fits, numbers_fit, region_fits, every_region, well_formed, IsWellFormed}
-use Rattle.g_graph.proofs.lemmas.Complete.{complete_set, program_set}
 use Rattle.g_graph.proofs.lemmas.Nests.{region_changed_ids, numbers_numbered, changed_well_formed}
 use Rattle.g_graph.proofs.lemmas.Nodes.{NodeFits, are_kinds}
 use Rattle.g_graph.proofs.lemmas.Numbers.{Numbered, numbered_left, numbered_right}
-use Rattle.g_graph.proofs.lemmas.Ops.{joined_ops, found_ops, set_ops, changed_ops}
+use Rattle.g_graph.proofs.lemmas.Ops.{joined_ops, found_ops, set_ops}
 use Rattle.g_graph.proofs.lemmas.Splices.{nodes_ids-joined, nodes_values-joined}
 use Rattle.g_graph.proofs.lemmas.Unique.{distinct_of_counts}
-use Rattle.g_mean.specs.Edits.{IsPartOf, IsEdited, KeepsMeaning, KeepsComplete}
+use Rattle.g_mean.specs.Edits.{IsPartOf, IsEdited}
 use Rattle.g_mean.proofs.lemmas.Closed.{region-closed}
-use Rattle.g_mean.proofs.lemmas.Exchange.{edits_keep_meaning}
 use Rattle.g_mean.proofs.lemmas.Inside.{node-here, inner-unique}
 use Rattle.r_copy.specs.Numbering.{node_count, region_numbered}
 use Rattle.r_copy.proofs.lemmas.Copies.{numbered-ops}
 use Rattle.r_copy.proofs.lemmas.Fits.{copies_count_the_same}
-use Rattle.r_edit.specs.Size.{IsNoLarger, IsResized, may_change_size}
+use Rattle.r_edit.specs.Size.{IsResized, may_change_size}
 use Rattle.r_edit.proofs.lemmas.Exchanged.{exchanged_stays}
-use Rattle.r_edit.proofs.lemmas.Size as size
-use Rattle.r_edit.proofs.lemmas.Steps.{contracts_give_steps, edits_keep_interface}
+use Rattle.r_edit.proofs.lemmas.Steps.{safe_changes_are_steps}
 use Rattle.r_edit.proofs.lemmas.Swapped.{RegionStays}
 use Rattle.r_edit.proofs.lemmas.Loops.{loop_node}
 use Rattle.r_edit.proofs.lemmas.Consecutive.{length-from}
@@ -182,9 +179,6 @@ module _ (p : Op → ℕ → Type 0) (const : (w m : ℕ) → p (Const w) m) (ga
       let own = found_ops p n nodes (loop_node n at.inputs at.body) at.found h in
       subst (RegionOps p) (sym at.set) (set_ops p n (loop_node n at.inputs (unrolled next at.body)) nodes (own.0, (unrolled-ops next at.body own.1.0, tt)) h)
 
-  pub url-ops : (n : ℕ) (l : PlainLambda) → RegionOps p l.body → RegionOps p (url n l).body
-  url-ops n l h = changed_ops p (url_here (lambda_values l) l.next n) (here-ops (lambda_values l) l.next n) l h
-
 -- ---- values
 
 unrolled-values : (next : ℕ) (r : RegionTree) → region_values (unrolled next r) ≡ region_values r + growth r
@@ -232,26 +226,12 @@ here-resized values next n (region args ns results) s e =
 edited : (n : ℕ) (l : PlainLambda) → IsEdited (url_here (lambda_values l) l.next n) l (url n l)
 edited n l = record { number = refl; params = refl; objects = refl; body = refl }
 
-pub url_keeps : (n : ℕ) (l : PlainLambda) → IsWellFormed l → KeepsMeaning l (url n l)
-url_keeps n l well =
-    edits_keep_meaning (url_here (lambda_values l) l.next n) l (url n l) well (edited n l) (λ ls ks r s part e. url_replaces ls ks (lambda_values l) l.next n l r s part e)
-
-calls-stay : (n : ℕ) (l : PlainLambda) (ls : List PlainLambda) → RegionOps (Calls ls) l.body → RegionOps (Calls ls) (url n l).body
-calls-stay n l ls h = url-ops (Calls ls) (λ w m. tt) (λ m. tt) n l h
-
-globals-stay : (n : ℕ) (l : PlainLambda) (count : ℕ) → RegionOps (NamesGlobal count) l.body → RegionOps (NamesGlobal count) (url n l).body
-globals-stay n l count h = url-ops (NamesGlobal count) (λ w m. tt) (λ m. tt) n l h
-
-pub url_keeps_lists : (n : ℕ) (l : PlainLambda) → IsWellFormed l → KeepsComplete l (url n l)
-url_keeps_lists n l well ls f at complete = complete_set l (url n l) (url_well_formed n l well) refl refl (calls-stay n l) ls f at complete
-
-pub url_keeps_program : (n : ℕ) (l : PlainLambda) → IsWellFormed l → KeepsPrograms l (url n l)
-url_keeps_program n l well = program_set l (url n l) (url_well_formed n l well) refl refl (calls-stay n l) (globals-stay n l)
-
-pub url_is_no_larger : (n : ℕ) (l : PlainLambda) → IsNoLarger (lambda_values l) (lambda_values (url n l))
-url_is_no_larger n l = size.resized_lambdas_are_no_larger (url_here (lambda_values l) l.next n) l (here-resized (lambda_values l) l.next n)
-
 pub url_is_a_step : UrlIsAStep
 url_is_a_step held n l well =
-    contracts_give_steps held l (url n l) (edits_keep_interface (url_here (lambda_values l) l.next n) l (url n l) (edited n l)) (url_is_no_larger n l) (url_well_formed n l well)
-    (url_keeps n l well) (url_keeps_lists n l well) (url_keeps_program n l well)
+    safe_changes_are_steps (url_here (lambda_values l) l.next n) l (url n l) well (url_well_formed n l well) (edited n l)
+    (record {
+      replaces = λ ls ks r s part e. url_replaces ls ks (lambda_values l) l.next n l r s part e;
+      calls = λ ls r s e h. here-ops (Calls ls) (λ w m. tt) (λ m. tt) (lambda_values l) l.next n r s e h;
+      names = λ globals r s e h. here-ops (NamesGlobal globals) (λ w m. tt) (λ m. tt) (lambda_values l) l.next n r s e h;
+      resized = λ r s e. here-resized (lambda_values l) l.next n r s e;
+    }) held

@@ -1,5 +1,5 @@
 -- The region of an unrolled loop may replace the region of the loop.
-use Rattle.std.proofs.Common.{◌≡◌, ℕ, true, List, ◌∷◌, map, Some, slice_get, refl, sym, subst, arith}
+use Rattle.std.proofs.Common.{ℕ, true, List, ◌∷◌, map, refl, sym, subst, arith}
 use Rattle.std.proofs.lemmas.Bool.{and_parts}
 use Rattle.val_core.specs.Refinement.{Direction, Forward, Backward, no_deeper}
 use Rattle.g_graph.specs.declared.op.Kind.{Kind}
@@ -10,26 +10,22 @@ use Rattle.g_graph.specs.Plain.{RegionTree, region, NodeTrees, node_then, no_reg
 use Rattle.g_graph.specs.Scope.{known}
 use Rattle.g_graph.specs.Signatures.{result_kinds}
 use Rattle.g_graph.specs.Splice.{joined_nodes}
-use Rattle.g_graph.specs.WellFormed.{are, IsWellFormed}
+use Rattle.g_graph.specs.WellFormed.{are}
 use Rattle.g_mean.specs.Meaning.{read, region_meaning}
 use Rattle.g_mean.specs.LessDefined.{IsLessDefinedDatum}
-use Rattle.g_mean.specs.Refining.{LambdasSameBut}
 use Rattle.g_mean.specs.Replacement.{IsTwice, Replaces}
-use Rattle.g_mean.specs.Edits.{AreEditedAt, IsPartOf}
+use Rattle.g_mean.specs.Edits.{IsPartOf}
 use Rattle.g_mean.proofs.lemmas.Bounds.{Never, Always, never-refines}
 use Rattle.g_mean.proofs.lemmas.Calls.{same-itself}
-use Rattle.g_mean.proofs.lemmas.Edits.{edits_replace}
 use Rattle.g_mean.proofs.lemmas.Equal.{no_deeper-compares}
 use Rattle.g_mean.proofs.lemmas.Inside.{node-here, as-many, regions-closed}
 use Rattle.g_mean.proofs.lemmas.Kept.{reads-refines}
 use Rattle.g_mean.proofs.lemmas.LessDefined.{less-kept}
-use Rattle.g_mean.proofs.lemmas.Programs.{programs_keep_meaning}
 use Rattle.g_mean.proofs.lemmas.Redirects.{replaced_nodes_refine}
 use Rattle.g_mean.proofs.lemmas.Regions.{region-refines}
-use Rattle.g_mean.proofs.lemmas.Replacement.{lambdas_keep_meaning}
 use Rattle.r_edit.proofs.lemmas.Loops.{loop_node}
-use Rattle.r_unroll.specs.Rule.{unrolled, url_here}
-use Rattle.r_unroll.specs.Laws.{IsLoopRegion, AreTurnsUnrolled, UnrolledTurnsRefine, UrlReplaces, UrlKeepsLambdas, UrlKeepsPrograms}
+use Rattle.r_unroll.specs.Rule.{unrolled}
+use Rattle.r_unroll.specs.Laws.{IsLoopRegion, AreTurnsUnrolled, UnrolledTurnsRefine, UrlReplaces}
 use Rattle.r_unroll.proofs.At.{unrolls-at}
 use Rattle.r_unroll.proofs.Turns.{turns-refine}
 use Rattle.r_unroll.proofs.Unrolled.{unrolled_regions_take_two_turns}
@@ -78,16 +74,3 @@ url_replaces ls ks values next n l (region args nodes results) s part e =
     subst (Replaces ls ks (region args nodes results)) (sym at.result)
     (subst (λ ns. Replaces ls ks (region args ns results) (region args (joined_nodes at.before (node_then (loop_node n at.inputs (unrolled next at.body)) at.after)) results)) (sym at.whole)
     (replaces ls ks next n l args at.before at.inputs at.body at.after results (subst (λ ns. IsPartOf l (region args ns results)) at.whole part)))
-
--- ---- lists of lambdas
-
-pub same-but : (ls ks : List PlainLambda) (values next n f : ℕ) → AreEditedAt (url_here values next n) f ls ks → ((l : PlainLambda) → slice_get ls f ≡ Some l → IsWellFormed l) →
-    LambdasSameBut (Replaces ls ks) ls ks
-same-but ls ks values next n f edited each =
-    edits_replace ls ks (url_here values next n) f edited each (λ l r s at part e. url_replaces ls ks values next n l r s part e)
-
-pub url_keeps_lambdas : UrlKeepsLambdas
-url_keeps_lambdas ls ks values next n f edited each = lambdas_keep_meaning ls ks (same-but ls ks values next n f edited each)
-
-pub url_keeps_programs : UrlKeepsPrograms
-url_keeps_programs ls ks values next n f edited each = programs_keep_meaning ls ks (same-but ls ks values next n f edited each)

@@ -1,5 +1,5 @@
 -- Unrolling keeps meaning.
-use Rattle.std.specs.Prelude.{◌≡◌, ◌==◌, ℕ, suc, ◌*◌, ◌≤◌, if◌then◌else◌, List, [], ◌∷◌, length, Some, slice_get}
+use Rattle.std.specs.Prelude.{◌≡◌, ◌==◌, ℕ, suc, ◌*◌, ◌≤◌, if◌then◌else◌, List, [], ◌∷◌, length, Some}
 use Rattle.val_core.specs.declared.values.Value.TheVariants.{Num}
 use Rattle.val_core.specs.Answers.{Returned, Undefined, then_on, on_number}
 use Rattle.val_core.specs.Refinement.{Direction, Forward, Backward, Refines, no_deeper}
@@ -10,8 +10,8 @@ use Rattle.g_mean.specs.Meaning.{Meaning, Context, turns, region_meaning}
 use Rattle.g_mean.specs.LessDefined.{Paired, IsLessDefinedDatum}
 use Rattle.g_mean.specs.Refining.{ContextRefines}
 use Rattle.g_mean.specs.Copies.{IsClosed}
-use Rattle.g_mean.specs.Edits.{AreEditedAt, IsPartOf}
-use Rattle.g_mean.specs.Replacement.{Replaces, FunctionsKeepMeaning, ProgramKeepsMeaning}
+use Rattle.g_mean.specs.Edits.{IsPartOf}
+use Rattle.g_mean.specs.Replacement.{Replaces}
 use Rattle.r_edit.specs.Steps.{MayStandFor}
 use Rattle.r_unroll.specs.Rule.{unrolled, url_here, url}
 
@@ -49,16 +49,6 @@ UnrolledTurnsRefine =
 abbrev pub UrlReplaces : Type 0
 UrlReplaces =
     (ls ks : List PlainLambda) (values next n : ℕ) (l : PlainLambda) (r s : RegionTree) → IsPartOf l r → url_here values next n r ≡ Some s → Replaces ls ks r s
-
--- Where the well-formed lambda of one function is changed at a node, every function keeps its meaning,
-abbrev pub UrlKeepsLambdas : Type 0
-UrlKeepsLambdas =
-    (ls ks : List PlainLambda) (values next n f : ℕ) → AreEditedAt (url_here values next n) f ls ks → ((l : PlainLambda) → slice_get ls f ≡ Some l → IsWellFormed l) → FunctionsKeepMeaning ls ks
-
--- and so does the program.
-abbrev pub UrlKeepsPrograms : Type 0
-UrlKeepsPrograms =
-    (ls ks : List PlainLambda) (values next n f : ℕ) → AreEditedAt (url_here values next n) f ls ks → ((l : PlainLambda) → slice_get ls f ≡ Some l → IsWellFormed l) → ProgramKeepsMeaning ls ks
 
 -- The rule is a step: the lambda stays well formed, may stand for the old one in any list, and is no larger or small.
 abbrev pub UrlIsAStep : Type 0

@@ -1,6 +1,6 @@
 //! Unrolling keeps meaning.
 
-ghost use Rattle.r_unroll.specs.Laws.{UnrolledRegionsTakeTwoTurns, UnrolledTurnsRefine, UrlReplaces, UrlKeepsLambdas, UrlKeepsPrograms, UrlIsAStep};
+ghost use Rattle.r_unroll.specs.Laws.{UnrolledRegionsTakeTwoTurns, UnrolledTurnsRefine, UrlReplaces, UrlIsAStep};
 
 /// An unrolled region does a turn and then, where the predicate is not 0, a second one. So at most
 /// n turns are within n unrolled turns, and at most n unrolled turns within 2n turns; no stacks are
@@ -10,15 +10,9 @@ pub fn unrolled_turns_refine()
     ensures turns { UnrolledTurnsRefine }
 {}
 
-/// A changed region of a well-formed lambda may replace the old one in any lambdas.
-pub fn url_replaces()
-    ensures { UrlReplaces }
-{}
-
-/// The rule at a node of a well-formed lambda keeps the meaning of every function, and of the
-/// program; it is a step.
+/// A changed region of a well-formed lambda may replace the old one; the rule at a node of a
+/// well-formed lambda is a step, whatever lambdas are held.
 pub fn url_keeps_meaning()
-    ensures lambda { UrlKeepsLambdas }
-    ensures program { UrlKeepsPrograms }
+    ensures replaces { UrlReplaces }
     ensures step { UrlIsAStep }
 {}

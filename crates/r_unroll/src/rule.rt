@@ -1,11 +1,10 @@
 //! Where the rule applies, and what it does there.
 
-ghost use Rattle.std.specs.Prelude.{◌≡◌, OnOk, OnErr, IsTrue, is_some};
+ghost use Rattle.std.specs.Prelude.{◌≡◌, List, OnOk, OnErr, IsTrue, is_some};
 ghost use Rattle.g_graph.specs.Change.{region_changed};
-ghost use Rattle.g_graph.specs.Program.{lambda_values, KeepsPrograms};
+ghost use Rattle.g_graph.specs.Plain.{PlainLambda};
 ghost use Rattle.g_graph.specs.WellFormed.{IsWellFormed};
-ghost use Rattle.g_mean.specs.Edits.{KeepsMeaning, KeepsComplete};
-ghost use Rattle.r_edit.specs.Size.{IsNoLarger};
+ghost use Rattle.r_edit.specs.Steps.{MayStandFor};
 ghost use Rattle.r_unroll.specs.Edit.{followed_at};
 ghost use Rattle.r_unroll.specs.Rule.{url_here, applies, url};
 
@@ -53,11 +52,8 @@ pub fn apply(alloc: Global, lambda: &mut Lambda, node: u32) -> Result<(), NoMemo
     requires well_formed { IsWellFormed lambda.old }
     requires applies { IsTrue (applies lambda.old node) }
     ensures ok { OnOk result (lambda.new ≡ url node lambda.old) }
-    ensures kept { OnOk result (IsWellFormed lambda.new) }
-    ensures meaning { OnOk result (KeepsMeaning lambda.old lambda.new) }
-    ensures list { OnOk result (KeepsComplete lambda.old lambda.new) }
-    ensures program { OnOk result (KeepsPrograms lambda.old lambda.new) }
-    ensures size { OnOk result (IsNoLarger (lambda_values lambda.old) (lambda_values lambda.new)) }
+    ensures step { OnOk result ((held : List PlainLambda) →
+        MayStandFor held lambda.old lambda.new) }
     ensures err { OnErr result (lambda.new ≡ lambda.old) }
 {
     let values = values(lambda);

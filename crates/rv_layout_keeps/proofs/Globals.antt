@@ -9,16 +9,16 @@ use Rattle.rv_layout_keeps.proofs.Blocks.{has_global, no_address, length_blocks,
 use Rattle.rv_layout_keeps.proofs.Values.{globals_show_memory}
 
 pub globals_are_shown : GlobalsAreShown
-globals_are_shown fs ds main can sound globals = globals_show_memory (map function_items fs) ds main can sound globals
+globals_are_shown places fs ds main can sound globals = globals_show_memory (map (function_items places) fs) ds main can sound globals
 
 pub globals_have_blocks : GlobalsHaveBlocks
-globals_have_blocks fs ds main can sound = record {
+globals_have_blocks places fs ds main can sound = record {
   fresh = λ n past.
       let blocks = length_blocks (global_of ds) ds in
-      no_address (fixed_address (map function_items fs)) (data_address (map function_items fs) ds + 8) ds n (omega (arith, blocks, past));
-  free = λ a from to. stack_is_outside (map function_items fs) ds main can sound a from;
+      no_address (fixed_address (map (function_items places) fs)) (data_address (map (function_items places) fs) ds + 8) ds n (omega (arith, blocks, past));
+  free = λ a from to. stack_is_outside (map (function_items places) fs) ds main can sound a from;
   globals = λ k below.
-      global_address (map function_items fs) ds main can sound k (has_global (fixed_address (map function_items fs)) (data_address (map function_items fs) ds + 8) ds k below);
-  below = let end = other_end (map function_items fs) ds main can sound in omega (arith, end);
-  outside = buffer_is_outside (map function_items fs) ds main can sound;
+      global_address (map (function_items places) fs) ds main can sound k (has_global (fixed_address (map (function_items places) fs)) (data_address (map (function_items places) fs) ds + 8) ds k below);
+  below = let end = other_end (map (function_items places) fs) ds main can sound in omega (arith, end);
+  outside = buffer_is_outside (map (function_items places) fs) ds main can sound;
 }

@@ -1,6 +1,6 @@
 -- What linear code does within a bound, in the answers and events of the graph's meaning: names hold values, and memory and
 -- input go along. A loop's turn is counted at its label, afresh at each entrance, and a call runs at the bound below.
-use Rattle.std.specs.Prelude.{ℕ, zero, suc, ◌-◌, ◌%◌, ◌^◌, ◌==◌, if◌then◌else◌, List, [], ◌∷◌, ◌++◌, map, length, slice_get, slice_index_or, Option, None, Some}
+use Rattle.std.specs.Prelude.{ℕ, zero, suc, ◌-◌, ◌%◌, ◌^◌, ◌==◌, Bool, false, if◌then◌else◌, List, [], ◌∷◌, ◌++◌, map, length, slice_get, slice_index_or, Option, None, Some}
 use Rattle.val_core.specs.declared.values.Value.{Value}
 use Rattle.val_core.specs.declared.values.Value.TheVariants.{Num, Bad}
 use Rattle.val_core.specs.Values.{value1, value2}
@@ -27,10 +27,12 @@ Run = State → Answer State
 abbrev pub Call : Type 0
 Call = List Value → Memory → List ℕ → Answer (Given Value)
 
--- what a code takes from outside: how many turns a loop may take, what calls do, and the addresses of objects and globals
+-- what a code takes from outside: how many turns a loop may take, what calls do, which names they lose, and the addresses of
+-- objects and globals
 pub record Context : Type 0 where
   pub bound : ℕ
   pub call : ℕ → Call
+  pub lost : ℕ → Bool
   pub addresses : Addresses
 
 abbrev pub no_names : ℕ → Value
@@ -54,9 +56,17 @@ abbrev pub got : State → (target : ℕ) → List ℕ → Answer State
 got s t [] = gives s t (Num (2 ^ 32 - 1))
 got s t (b ∷ i) = Returned (record { names = written s.names t (Num b); memory = s.memory; input = i }) (took b ∷ [])
 
+-- calls of linear code lose no name
+abbrev pub none_lost : ℕ → Bool
+none_lost x = false
+
+-- a name that a call loses holds what has no meaning
+abbrev pub names_after : (lost : ℕ → Bool) → (ℕ → Value) → (ℕ → Value)
+names_after lost names x = if lost x then Bad else names x
+
 -- after a call
-abbrev pub back_from : State → (target : ℕ) → Given Value → Answer State
-back_from s t g = Returned (record { names = written s.names t g.value; memory = g.memory; input = g.input }) []
+abbrev pub back_from : (lost : ℕ → Bool) → State → (target : ℕ) → Given Value → Answer State
+back_from lost s t g = Returned (record { names = written (names_after lost s.names) t g.value; memory = g.memory; input = g.input }) []
 
 abbrev pub instr_run : Context → Instr → Run
 instr_run c (const t w) s = gives s t (Num (w % 2 ^ 32))
@@ -70,7 +80,7 @@ instr_run c (store width a v) s = on_defined (mem.store width (s.names a) (s.nam
 instr_run c (clear k) s = on_defined (cleared_at (c.addresses.local k) s.memory) (gives_memory s)
 instr_run c (equal_pointers t a b) s = on_defined (pointers_equal (s.names a) (s.names b) s.memory) (λ n. gives s t (Num n))
 instr_run c (move t a) s = gives s t (s.names a)
-instr_run c (call f t xs) s = then_on (c.call f (map s.names xs) s.memory s.input) (back_from s t)
+instr_run c (call f t xs) s = then_on (c.call f (map s.names xs) s.memory s.input) (back_from c.lost s t)
 instr_run c (put a) s = on_number (s.names a) (λ w. Returned s (wrote (w % 256) ∷ []))
 instr_run c (get t) s = got s t s.input
 instr_run c (exit a) s = on_number (s.names a) (λ w. Exited [] (w % 256))
@@ -124,7 +134,12 @@ entered n callees global None vs m i = Undefined []
 entered n callees global (Some f) vs m i =
     then_on
     (code_run
-    (record { bound = n; call = callees; addresses = record { local = address_in (length m) (map (λ o. o.size) f.objects); global = global } })
+    (record {
+      bound = n;
+      call = callees;
+      lost = none_lost;
+      addresses = record { local = address_in (length m) (map (λ o. o.size) f.objects); global = global };
+    })
     f.code
     (record { names = first_names vs; memory = m ++ opened (shapes_of f.objects); input = i }))
     (λ s. Returned (record { value = s.names f.value; memory = closed (length m) (length f.objects) s.memory; input = s.input }) [])

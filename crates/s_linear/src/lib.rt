@@ -7,5 +7,5 @@ mod frame;
 pub mod laws;
 mod line;
 
-pub use frame::{Frame, Places};
+pub use frame::{CodeForm, Frame, Places};
 pub use line::{Instr, Line, Linear};

@@ -18,18 +18,18 @@ use Rattle.s_select.specs.Templates.{instr_items, items_of}
 
 -- ---- operands
 
-first-word : get t0 (location_of 11) ≡ Lw t0 sp 0 ∷ []
+first-word : get t0 (location_of 0 11) ≡ Lw t0 sp 0 ∷ []
 first-word = refl
 
-last-near-word : get t0 (location_of 522) ≡ Lw t0 sp 2044 ∷ []
+last-near-word : get t0 (location_of 0 522) ≡ Lw t0 sp 2044 ∷ []
 last-near-word = refl
 
-first-far-word : get t0 (location_of 523) ≡ Lui t2 1 ∷ Add t2 t2 sp ∷ Lw t0 t2 (2 ^ 32 - 2048) ∷ []
+first-far-word : get t0 (location_of 0 523) ≡ Lui t2 1 ∷ Add t2 t2 sp ∷ Lw t0 t2 (2 ^ 32 - 2048) ∷ []
 first-far-word = refl
 
 -- a call whose eight arguments and value are in far words
 abbrev far_places : PlainPlaces
-far_places = record { of = 600 ∷ 601 ∷ 602 ∷ 603 ∷ 604 ∷ 605 ∷ 606 ∷ 607 ∷ 608 ∷ []; count = 609 }
+far_places = record { of = 600 ∷ 601 ∷ 602 ∷ 603 ∷ 604 ∷ 605 ∷ 606 ∷ 607 ∷ 608 ∷ []; count = 609; temporaries = 0 }
 
 far-call : items_size (instr_items far_places [] (call 0 8 (0 ∷ 1 ∷ 2 ∷ 3 ∷ 4 ∷ 5 ∷ 6 ∷ 7 ∷ []))) ≡ 116
 far-call = refl
@@ -38,7 +38,7 @@ far-call = refl
 
 -- return 42;
 abbrev answer : List Item
-answer = items_of (record { of = 0 ∷ []; count = 1 }) [] (enter [] ∷ done (const 0 42) ∷ leave 0 ∷ [])
+answer = items_of (record { of = 0 ∷ []; count = 1; temporaries = 0 }) [] (enter [] ∷ done (const 0 42) ∷ leave 0 ∷ [])
 
 abbrev answer_sections : Sections
 answer_sections = laid_out (answer ∷ []) [] 0
@@ -52,7 +52,7 @@ abbrev table : PlainDelta
 table = record { bytes = 1 ∷ 0 ∷ 0 ∷ 0 ∷ 2 ∷ 0 ∷ 0 ∷ 0 ∷ 3 ∷ 0 ∷ 0 ∷ 0 ∷ []; links = []; leaves = []; fixed = true }
 
 abbrev third : List Item
-third = items_of (record { of = 0 ∷ 1 ∷ []; count = 2 }) [] (enter [] ∷ done (global_address 0 0) ∷ done (load 4 1 0) ∷ leave 1 ∷ [])
+third = items_of (record { of = 0 ∷ 1 ∷ []; count = 2; temporaries = 0 }) [] (enter [] ∷ done (global_address 0 0) ∷ done (load 4 1 0) ∷ leave 1 ∷ [])
 
 abbrev third_sections : Sections
 third_sections = laid_out (third ∷ []) (table ∷ []) 0

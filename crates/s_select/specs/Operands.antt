@@ -19,7 +19,7 @@ t2 = 7
 abbrev pub negative : ℕ → ℕ
 negative n = 2 ^ 32 - n
 
--- the register of a place below 11: s1 to s11
+-- the register of a place: s1 to s11, and t3 to t6 after them
 abbrev pub place_register : (place : ℕ) → ℕ
 place_register p = if p == 0 then s1 else p + 17
 
@@ -28,8 +28,8 @@ place_register p = if p == 0 then s1 else p + 17
 abbrev pub word_at : (offset : ℕ) → Location
 word_at offset = if nat_lt offset 2048 then Near offset else Far offset
 
-abbrev pub location_of : (place : ℕ) → Location
-location_of p = if nat_lt p registers then Register (place_register p) else word_at (4 * (p - registers))
+abbrev pub location_of : (temporaries place : ℕ) → Location
+location_of t p = if nat_lt p (registers + t) then Register (place_register p) else word_at (4 * (p - (registers + t)))
 
 -- a word in a register: one instruction where it is -2048 to 2047 as a signed number, else two
 abbrev pub load_immediate : (rd v : ℕ) → List Instr

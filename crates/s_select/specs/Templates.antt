@@ -24,7 +24,7 @@ words code = map Word code
 
 -- where the value of a name is
 abbrev pub place_of : PlainPlaces → (name : ℕ) → Location
-place_of places x = location_of (slice_index places.of x)
+place_of places x = location_of places.temporaries (slice_index places.of x)
 
 -- ---- the frame
 
@@ -127,6 +127,10 @@ abbrev pub move_code : (to from : Location) → List Instr
 move_code (Register r) from = get r from
 move_code to from = load_in t0 from ++ put to (in_of from t0)
 
+-- a move from a place to itself is no instruction
+abbrev pub move_between : (temporaries to from : ℕ) → List Instr
+move_between t p q = if p == q then [] else move_code (location_of t p) (location_of t q)
+
 -- zeros in each word of an object at an offset from the stack pointer
 abbrev pub clear_code : (offset size : ℕ) → List Instr
 clear_code offset size =
@@ -156,7 +160,7 @@ instr_items p os (linear.store width a v) =
     words (load_in t0 (place_of p a) ++ load_in t1 (place_of p v) ++ store_instr width (in_of (place_of p a) t0) (in_of (place_of p v) t1) ∷ [])
 instr_items p os (linear.clear k) = words (clear_code (object_at p.count os k) (size_of os k))
 instr_items p os (linear.equal_pointers t a b) = words (with_two (place_of p t) (place_of p a) (place_of p b) (binary_code op.Eq))
-instr_items p os (linear.move t a) = words (move_code (place_of p t) (place_of p a))
+instr_items p os (linear.move t a) = words (move_between p.temporaries (slice_index p.of t) (slice_index p.of a))
 instr_items p os (linear.call f t xs) = words (get_arguments p a0 xs) ++ Call f ∷ words (put (place_of p t) a0)
 instr_items p os (linear.put a) = words (get a0 (place_of p a)) ++ Stub 0 ∷ []
 instr_items p os (linear.get t) = Stub 1 ∷ words (put (place_of p t) a0)

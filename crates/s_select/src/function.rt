@@ -1,8 +1,8 @@
 //! The templates of a function, whose names have places.
 
-ghost use Rattle.std.specs.Prelude.{◌≡◌, ◌++◌, ◌+◌, ◌<◌, ◌≤◌, ◌^◌, IsTrue, length, OnOk};
+ghost use Rattle.std.specs.Prelude.{◌≡◌, ◌++◌, ◌+◌, ◌-◌, ◌*◌, ◌<◌, ◌≤◌, ◌^◌, IsTrue, length, slice_index, OnOk};
 ghost use Rattle.g_graph.specs.WellFormed.{all_of};
-ghost use Rattle.s_linear.specs.Frame.{frame_size, object_at, objects_at, saved_of};
+ghost use Rattle.s_linear.specs.Frame.{frame_size, object_at, objects_at, registers, saved_of};
 ghost use Rattle.s_select.specs.Operands.{offsets_from};
 ghost use Rattle.s_select.specs.Templates.{get_arguments, place_of, put_params, size_of, words};
 ghost use Rattle.s_select.specs.Conditions.{has_place};
@@ -24,16 +24,27 @@ pub struct Function<'a> {
     pub offsets: &'a [u32],
     ghost begins: { offsets.now ≡ offsets_from (objects_at places.now.count) objects.now },
     ghost fits: { frame_size places.now.count objects.now < 2 ^ 32 },
+    ghost few: { places.now.temporaries ≤ 4 },
 }
 
 impl Function<'_> {
+    /// The place of a name.
+    pub fn place(&self, name: u32) -> u32
+        requires { IsTrue (has_place self.now.places.now name) }
+        ensures place { result ≡ slice_index self.now.places.now.of name }
+        ensures small { 4 * (result - (registers + self.now.places.now.temporaries)) < 2 ^ 32 }
+    {
+        let places = self.places;
+        places.of[name as usize]
+    }
+
     /// Where the value of a name is.
     pub fn place_of(&self, name: u32) -> Location
         requires { IsTrue (has_place self.now.places.now name) }
         ensures { result ≡ place_of self.now.places.now name }
     {
         let places = self.places;
-        location_of(places.of[name as usize])
+        location_of(places.temporaries, self.place(name))
     }
 
     /// How many registers the function keeps for its caller.

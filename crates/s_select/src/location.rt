@@ -1,13 +1,16 @@
 //! Where a value is: in a register, or in a word of the frame.
 
-ghost use Rattle.std.specs.Prelude.{◌≡◌, ◌-◌, ◌*◌, ◌<◌, ◌^◌};
+ghost use Rattle.std.specs.Prelude.{◌≡◌, ◌+◌, ◌-◌, ◌*◌, ◌<◌, ◌≤◌, ◌^◌};
 ghost use Rattle.s_linear.specs.Frame.{registers};
 ghost use Rattle.s_select.specs.Operands.{in_of, location_of, out_of, place_register};
 
 use rv_isa::{Imm12, Reg};
 
-/// How many places are registers; the others are words of the frame.
+/// How many places are registers that a call keeps.
 pub const REGISTERS: u32 = 11;
+
+/// How many places after them are registers at most, which a call loses.
+pub const TEMPORARIES: u32 = 4;
 
 /// Where a value is: in a register, or in a word of the frame at an offset from the stack pointer,
 /// near where the offset fits an instruction, and else far.
@@ -18,23 +21,25 @@ pub enum Location {
     Far(u32),
 }
 
-/// The register of a place: s1 to s11.
+/// The register of a place: s1 to s11, and t3 to t6 after them.
 pub fn place_register(place: u32) -> Reg
-    requires { place < REGISTERS }
+    requires { place < REGISTERS + TEMPORARIES }
     ensures { result ≡ place_register place }
 {
     Reg::new(if place == 0 { 9 } else { place + 17 })
 }
 
-/// Where a place is.
-pub fn location_of(place: u32) -> Location
-    requires { 4 * (place - registers) < 2 ^ 32 }
-    ensures { result ≡ location_of place }
+/// Where a place is, with so many temporaries.
+pub fn location_of(temporaries: u32, place: u32) -> Location
+    requires few { temporaries ≤ TEMPORARIES }
+    requires small { 4 * (place - (registers + temporaries)) < 2 ^ 32 }
+    ensures { result ≡ location_of temporaries place }
 {
-    if place < REGISTERS {
+    let first_word = REGISTERS + temporaries;
+    if place < first_word {
         return Location::Register(place_register(place));
     }
-    let offset = 4 * (place - REGISTERS);
+    let offset = 4 * (place - first_word);
     if offset < 2048 {
         Location::Near(Imm12::new(offset))
     } else {

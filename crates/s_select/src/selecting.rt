@@ -75,6 +75,19 @@ impl Function<'_> {
         push_clear(items, self.offset_of(number), self.size_of(number))
     }
 
+    fn move_value(&self, items: &mut Vec<Item>, to: u32, from: u32) -> Result<(), AllocError>
+        requires to { IsTrue (has_place self.now.places.now to) }
+        requires from { IsTrue (has_place self.now.places.now from) }
+        ensures { OnOk result (items.new.items
+            ≡ items.old.items
+            ++ instr_items self.now.places.now self.now.objects.now (linear.move to from)) }
+    {
+        if self.place(to) == self.place(from) {
+            return Ok(());
+        }
+        push_move(items, &self.place_of(to), &self.place_of(from))
+    }
+
     fn call(
         &self,
         items: &mut Vec<Item>,
@@ -144,9 +157,7 @@ impl Function<'_> {
                 left,
                 right,
             } => self.binary(items, Op2::Eq, *target, *left, *right),
-            Instr::Move { target, source } => {
-                push_move(items, &self.place_of(*target), &self.place_of(*source))
-            }
+            Instr::Move { target, source } => self.move_value(items, *target, *source),
             Instr::Call {
                 function,
                 target,

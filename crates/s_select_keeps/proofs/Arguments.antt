@@ -1,6 +1,6 @@
 -- Arguments of a call, loaded one after the other, and put into the places of parameters.
-use Rattle.std.proofs.Common.{◌≡◌, ℕ, zero, suc, ◌+◌, ◌^◌, ◌<◌, ◌≤◌, nat_lt, true, List, map, [], ◌∷◌, length, slice_get, slice_index, is_some, refl, sym, ap, subst, ◌∙◌, arith, inl, inr}
-use Rattle.std.proofs.lemmas.Bool.{and_parts, ltb-true}
+use Rattle.std.proofs.Common.{◌≡◌, ℕ, zero, suc, ◌+◌, ◌^◌, ◌<◌, ◌≤◌, true, List, map, [], ◌∷◌, length, slice_index, refl, sym, ap, subst, ◌∙◌, arith, inl, inr}
+use Rattle.std.proofs.lemmas.Bool.{and_parts}
 use Rattle.val_core.specs.declared.values.Value.{Value}
 use Rattle.g_graph.specs.WellFormed.{all_of}
 use Rattle.rv_machine.specs.Machine as machine
@@ -15,22 +15,17 @@ use Rattle.s_select.specs.declared.location.Location.{Location}
 use Rattle.s_select.specs.declared.location.Location.TheVariants.{Register, Near, Far}
 use Rattle.s_select.specs.Operands.{location_of, get, put}
 use Rattle.s_select.specs.Templates as select
-use Rattle.s_select.specs.Templates.{get_arguments}
+use Rattle.s_select.specs.Templates.{place_of, get_arguments}
 use Rattle.s_select_keeps.specs.Arguments.{ArgumentsAreLoaded, ParamsArePut}
-use Rattle.s_select_keeps.specs.Relation.{IsPlaceRegister, Shows, Frame, HasWords, Represents}
+use Rattle.s_select_keeps.specs.Relation.{IsPlaceRegister, Shows, Frame, IsPlaceOf, HasWords, Represents}
 use Rattle.s_select_keeps.specs.Steps.{Steps, Arrives}
-use Rattle.s_select_keeps.specs.Table.{place_at}
-use Rattle.s_select_keeps.proofs.Locations.{kept-apart, kept-argument, location-fits, LocationFits, IsOtherRegister}
+use Rattle.s_select_keeps.specs.Table.{place_at, HasPlaces}
+use Rattle.s_select_keeps.proofs.Locations.{kept-apart, kept-argument, place-below, locations-same, location-fits, LocationFits, IsOtherRegister}
 use Rattle.s_select_keeps.proofs.Operands.{get-done, put-done, Writes}
 use Rattle.s_select_keeps.proofs.Registers.{Computes, steps-none, steps-then, code-le}
 use Rattle.s_select_keeps.proofs.Represented.{kept-represents, place-represents}
 
-pub place-below : (p : PlainPlaces) (places : ℕ) → places ≡ p.count → (x : ℕ) → has_place p x ≡ true → place_at p x < places
-place-below p places same x e =
-    let less : place_at p x < p.count = ltb-true (place_at p x) p.count (and_parts (is_some (slice_get p.of x)) (nat_lt (place_at p x) p.count) e).1 in
-    omega (arith, less, same)
-
-module _ (text : Text) (f : Frame) (words : HasWords text f) (p : PlainPlaces) (same : f.places ≡ p.count) (q : linear.State) where
+module _ (text : Text) (f : Frame) (words : HasWords text f) (p : PlainPlaces) (same : HasPlaces f p) (q : linear.State) where
   -- from a register on; the argument registers before it keep what they hold
   record Loads (s : machine.State) (b r : ℕ) (names : List ℕ) : Type 0 where
     state : machine.State
@@ -51,12 +46,13 @@ module _ (text : Text) (f : Frame) (words : HasWords text f) (p : PlainPlaces) (
     before = λ n above under. refl;
   }
   loads (x ∷ xs) s b r rep places high few there low =
-      let l = location_of (place_at p x) in
+      let l = location_of f.temporaries (place_at p x) in
       let parts = and_parts (has_place p x) (all_of (has_place p) xs) places in
-      let inside = place-below p f.places same x parts.0 in
-      let cut = code_is_cut text s.pc b (get r l) (get_arguments p (suc r) xs) there in
+      let inside = place-below p f same x parts.0 in
+      let cut = code_is_cut text s.pc b (get r (place_of p x)) (get_arguments p (suc r) xs) there in
       let le = code-le text cut.0 (get_arguments p (suc r) xs) b cut.2 in
-      let got = get-done text f words s cut.0 r l (q.names (place_at p x)) rep.has_text rep.stack (location-fits f (place_at p x) inside) cut.1 (omega (arith, le, low))
+      let got = get-done text f words s cut.0 r l (q.names (place_at p x)) rep.has_text rep.stack (location-fits f (place_at p x) inside)
+      (subst (λ at. CodeStands text s.pc (get r (at (place_at p x))) cut.0) (locations-same p f same) cut.1) (omega (arith, le, low))
       (λ e. omega (arith, e, high)) (rep.places (place_at p x) inside) in
       let one = got.2 in
       let rep' = kept-represents text f words q s one.state rep
@@ -91,19 +87,19 @@ arguments_are_loaded text f q s words rep p names b same places few there low =
 
 -- ---- parameters
 
-module _ (text : Text) (f : Frame) (words : HasWords text f) (p : PlainPlaces) (same : f.places ≡ p.count) (vs : List Value) where
+module _ (text : Text) (f : Frame) (words : HasWords text f) (p : PlainPlaces) (same : HasPlaces f p) (vs : List Value) where
   -- the state once the parameters from a number on are put
   abbrev put-from : linear.State → ℕ → List ℕ → linear.State
   put-from q k names = record { names = put_params (map (place_at p) names) k vs q.names; memory = q.memory; input = q.input }
 
   -- an argument register is left by what writes to a place
-  argument-left : (s : machine.State) (b t : ℕ) (v : Value) → t < f.places → (w : Writes text f s b (location_of t) v) → (n : ℕ) → 9 < n → n < 18
+  argument-left : (s : machine.State) (b t : ℕ) (v : Value) → IsPlaceOf f t → (w : Writes text f s b (location_of f.temporaries t) v) → (n : ℕ) → 9 < n → n < 18
       → w.state.regs n ≡ s.regs n
-  argument-left s b t v below w n high few = w.registers n (inr (omega (arith, high))) (other (location_of t) (location-fits f t below))
+  argument-left s b t v below w n high few = w.registers n (inr (omega (arith, high))) (other (location_of f.temporaries t) (location-fits f t below))
     where
       apart : (r : ℕ) → IsPlaceRegister r → n ≡ r → ⊥
       apart r (inl nine) e = omega (arith, nine, e, high)
-      apart r (inr above) e = let more = above.0 in omega (arith, more, e, few)
+      apart r (inr above) e = omega (arith, above, e, few)
 
       other : (l : Location) → LocationFits f l → IsOtherRegister l n
       other (Register r) place = λ e. apart r place e
@@ -117,16 +113,17 @@ module _ (text : Text) (f : Frame) (words : HasWords text f) (p : PlainPlaces) (
   puts [] q s b k rep places few shows there low = record { state = s; steps = steps-none text.flags s; pc = there; shows = rep }
   puts (x ∷ xs) q s b k rep places few shows there low =
       let t = place_at p x in
-      let l = location_of t in
+      let l = location_of f.temporaries t in
       let v = first_names vs k in
       let parts = and_parts (has_place p x) (all_of (has_place p) xs) places in
-      let inside = place-below p f.places same x parts.0 in
+      let inside = place-below p f same x parts.0 in
       let rest = select.put_params p (suc (10 + k)) xs in
-      let cut = code_is_cut text s.pc b (put l (10 + k)) rest there in
+      let cut = code_is_cut text s.pc b (put (place_of p x) (10 + k)) rest there in
       let le = code-le text cut.0 rest b cut.2 in
       let zero-th : k + 0 ≡ k = omega arith in
       let shown = subst (λ n. Shows f.bases (first_names vs n) (s.regs (10 + n))) zero-th (shows 0 (omega arith)) in
-      let w = put-done text f words s cut.0 (10 + k) (s.regs (10 + k)) l v rep.has_text rep.stack (location-fits f t inside) cut.1 (omega (arith, le, low))
+      let w = put-done text f words s cut.0 (10 + k) (s.regs (10 + k)) l v rep.has_text rep.stack (location-fits f t inside)
+      (subst (λ at. CodeStands text s.pc (put (at t) (10 + k)) cut.0) (locations-same p f same) cut.1) (omega (arith, le, low))
       (λ e. omega (arith, e))
       (λ e. omega (arith, e)) refl shown in
       let more : (j : ℕ) → j < length xs → Shows f.bases (first_names vs (suc k + j)) (w.state.regs (10 + (suc k + j))) = λ j below.

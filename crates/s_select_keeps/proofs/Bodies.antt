@@ -31,7 +31,7 @@ use Rattle.s_select_keeps.proofs.Stores.{SameBlocks, alike, alike-back, live-sam
 module _ (text : Text) (f : Frame) (addresses : Addresses) (p : PlainPlaces) (os : List PlainObject) (c : Context) where
   pub body-same : (m m' : mem.Memory) → LivesAlike m m' → IsBody text f addresses p os c.addresses m → IsBody text f addresses p os c.addresses m'
   body-same m m' same h = record {
-    count = h.count;
+    places = h.places;
     objects = λ k below. object k (h.objects k below);
     globals = h.globals;
     buffer = record {
@@ -178,7 +178,7 @@ module _ (text : Text) (f : Frame) (addresses : Addresses) (p : PlainPlaces) (os
 pub code_is_done : InstrIsDone → StoreKeepsBlocks → ClearKeepsBlocks → CodeIsDone
 code_is_done instr_is_done store-keeps clear-keeps text f addresses labels p os c q s k first b has rep body bytes fit there low =
     followed text f (IsBodyState text f addresses p os c) b c.bound (linear.code_run c (placed_code (place_at p) k) q) s q.input
-    (code-follows text f (λ n. 0) 0 (StaysIn text f addresses p os c) has addresses labels p os c body.count (InstrFits p (length os) (length addresses.globals)) instr
+    (code-follows text f (λ n. 0) 0 (StaysIn text f addresses p os c) has addresses labels p os c body.places (InstrFits p (length os) (length addresses.globals)) instr
     k first fit q s b
     (record { bases = f.bases; inv = (refl, (body, bytes)); shows = rep }) there low)
   where

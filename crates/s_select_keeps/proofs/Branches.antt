@@ -8,7 +8,7 @@ use Rattle.rv_machine.specs.Machine.{State, next, act, jump, offset, after}
 use Rattle.s_linear.specs.Meaning as linear
 use Rattle.s_select.specs.Operands.{location_of, load_immediate, in_of, load_in}
 use Rattle.rv_machine.specs.Standing.{Text, HasText, CodeStands}
-use Rattle.s_select_keeps.specs.Relation.{IsKept, Shows, Frame, HasWords, Represents}
+use Rattle.s_select_keeps.specs.Relation.{IsKept, Shows, Frame, IsPlaceOf, HasWords, Represents}
 use Rattle.s_select_keeps.specs.Steps.{Steps, Arrives}
 use Rattle.s_select_keeps.specs.Branches.{OffsetLeads, JumpIsDone, BranchNotZeroIsDone, BranchZeroIsDone, BranchEqualIsDone}
 use Rattle.rv_machine.proofs.lemmas.Standing.{code_is_cut}
@@ -59,12 +59,12 @@ module _ (text : Text) where
     word-is q p w x e shows = let h = subst (λ v. Shows f.bases v x) e shows in h.0
 
     -- a predicate is loaded, and a branch reads it
-    tests : (q : linear.State) (s : State) (p w d target b : ℕ) (branch : ℕ → Instr) (test : Bool) → Represents text f q s → p < f.places → q.names p ≡ Num w
-        → CodeStands text s.pc (load_in t0 (location_of p) ++ branch (in_of (location_of p) t0) ∷ Jal x0 d ∷ []) b → b < 2 ^ 32 → (b - 4 + d) % 2 ^ 32 ≡ target
+    tests : (q : linear.State) (s : State) (p w d target b : ℕ) (branch : ℕ → Instr) (test : Bool) → Represents text f q s → IsPlaceOf f p → q.names p ≡ Num w
+        → CodeStands text s.pc (load_in t0 (location_of f.temporaries p) ++ branch (in_of (location_of f.temporaries p) t0) ∷ Jal x0 d ∷ []) b → b < 2 ^ 32 → (b - 4 + d) % 2 ^ 32 ≡ target
         → ((u : State) (r : ℕ) → r ≢ 0 → u.regs r ≡ w → act text.flags (branch r) u ≡ next (at u (cond test (offset u.pc 8) (after u.pc))))
         → Arrives text f (cond test b target) q s
     tests q s p w d target b branch test rep within word there low lands acts =
-        let l = location_of p in
+        let l = location_of f.temporaries p in
         let fits = location-fits f p within in
         let r = in_of l t0 in
         let one = loads text f words s b 5 l (q.names p) (branch r ∷ Jal x0 d ∷ []) rep.has_text rep.stack fits there low (omega arith) (omega arith)
@@ -101,7 +101,7 @@ branch_zero_is_done text f q s words rep p w d target b within word there low la
 pub branch_equal_is_done : BranchEqualIsDone
 unfolding act
 branch_equal_is_done text f q s words rep p w n d target b within word fits there low lands =
-    let l = location_of p in
+    let l = location_of f.temporaries p in
     let place = location-fits f p within in
     let r = in_of l t0 in
     let whole = subst (λ c. CodeStands text s.pc c b) (append_assoc (load_in t0 l) (load_immediate t1 n) (Bne r t1 8 ∷ Jal x0 d ∷ [])) there in

@@ -1,7 +1,8 @@
 -- The row of a call, where calls run: arguments into their registers, the call, and its value into its place.
-use Rattle.std.proofs.Common.{◌≡◌, ◌≢◌, ℕ, zero, suc, ◌+◌, ◌-◌, ◌*◌, ◌%◌, ◌^◌, ◌<◌, ◌≤◌, true, List, [], ◌∷◌, ◌++◌, map, length, slice_index, Option, refl, sym, ap, subst, ◌∙◌, arith, inl, inr}
+use Rattle.std.proofs.Common.{◌≡◌, ◌≢◌, ℕ, zero, suc, ◌+◌, ◌-◌, ◌%◌, ◌^◌, ◌<◌, ◌≤◌, true, false, List, [], ◌∷◌, ◌++◌, map, length, slice_index, Option, refl, sym, ap, subst, ◌∙◌, arith, inl, inr}
 use Rattle.std.specs.Prelude.{All}
-use Rattle.std.proofs.lemmas.Bool.{cases_lt, and_parts}
+use Rattle.std.specs.Prelude.{nat_le, nat_lt}
+use Rattle.std.proofs.lemmas.Bool.{cases_lt, cases_Bool, both_ways, and_from, and_parts, le-leb, lt-ltb}
 use Rattle.std.proofs.lemmas.List.{append-nil}
 use Rattle.val_core.specs.declared.values.Value.{Value}
 use Rattle.val_core.specs.declared.values.Value.TheVariants.{Bad}
@@ -23,27 +24,27 @@ use Rattle.rv_machine.proofs.lemmas.Stores.{load-agrees}
 use Rattle.rv_layout.specs.declared.item.Item.TheVariants as item
 use Rattle.rv_layout.specs.Layout.{offset_to}
 use Rattle.rv_layout.specs.Sequences as sequences
-use Rattle.s_linear.specs.Frame.{PlainPlaces}
+use Rattle.s_linear.specs.Frame.{PlainPlaces, is_lost}
 use Rattle.s_linear.specs.Linear.{call}
 use Rattle.s_linear.specs.Meaning as linear
-use Rattle.s_linear.specs.Meaning.{Call, Context, first_names, back_from, instr_run}
+use Rattle.s_linear.specs.Meaning.{Call, Context, first_names, names_after, back_from, instr_run}
 use Rattle.a_place.specs.Placed.{placed_instr}
 use Rattle.s_select.specs.Conditions.{has_place}
 use Rattle.s_select.specs.Operands as select
 use Rattle.s_select.specs.Operands.{place_register, location_of}
-use Rattle.s_select.specs.Templates.{words, get_arguments, instr_items}
+use Rattle.s_select.specs.Templates.{words, place_of, get_arguments, instr_items}
 use Rattle.s_select_keeps.specs.Arguments.{Loaded}
 use Rattle.s_select_keeps.specs.Calls.{Called}
 use Rattle.s_select_keeps.specs.Functions.{Program, ProgramCanRun, frame_sizes, HasBlocks, IsCalled, ComesBack, CallOutcome, CallsRun}
-use Rattle.s_select_keeps.specs.Relation.{Bases, Extends, Shows, LivesAlike, IsOutside, AreLaidOut, ShowsMemory, IsPlaceRegister, SameWord, held, Frame, at_bases, HasWords, Represents}
+use Rattle.s_select_keeps.specs.Relation.{Bases, Extends, Shows, LivesAlike, IsOutside, AreLaidOut, ShowsMemory, IsSavedRegister, SameWord, held, Frame, IsPlaceOf, at_bases, HasWords, Represents}
 use Rattle.s_select_keeps.specs.Standing.{ItemsStand}
 use Rattle.s_select_keeps.specs.Steps.{Exceeds}
-use Rattle.s_select_keeps.specs.Table.{place_at, ObjectStands, IsBody}
-use Rattle.s_select_keeps.proofs.Arguments.{arguments_are_loaded, place-below}
+use Rattle.s_select_keeps.specs.Table.{place_at, HasPlaces, ObjectStands, IsBody}
+use Rattle.s_select_keeps.proofs.Arguments.{arguments_are_loaded}
 use Rattle.s_select_keeps.proofs.Calls.{call_leads}
 use Rattle.s_select_keeps.proofs.Extended.{shows-more, extends-then, same-then, shows-same, alike-then, base-kept, outside-after, outside-before}
 use Rattle.s_select_keeps.proofs.Items.{items_are_cut, words_stand}
-use Rattle.s_select_keeps.proofs.Locations.{register-is-place, location-fits, held-at-register, held-at-word, place-above}
+use Rattle.s_select_keeps.proofs.Locations.{place-above, register-is-saved, saved-is-place, word-within, place-below, HasPlaceIn, locations-same, location-fits, word_address, held-at-register, held-at-word}
 use Rattle.s_select_keeps.proofs.Operands.{put-done}
 use Rattle.s_select_keeps.proofs.Outcomes.{Shown, Brings, Outcome, words-at, events-before, exceeds-more, steps-outcome}
 use Rattle.s_select_keeps.proofs.Registers.{steps-then, code-le}
@@ -84,7 +85,7 @@ module _ (program : Program) (can : ProgramCanRun program) (bound : ℕ) (meanin
     (os : List PlainObject)
     (local : ℕ → Value) (blocks : Memory) (frame : BodyStack program f blocks) (labels : ℕ → Option ℕ) where
   abbrev pub context : Context
-  context = record { bound = bound; call = meaning; addresses = record { local = local; global = program.global } }
+  context = record { bound = bound; call = meaning; lost = is_lost f.temporaries; addresses = record { local = local; global = program.global } }
 
   abbrev Inv : Bases → linear.State → Type 0
   Inv bases q = InFunction program f p os local blocks bases q
@@ -93,7 +94,7 @@ module _ (program : Program) (can : ProgramCanRun program) (bound : ℕ) (meanin
   left = f.sp - f.before.regs s0
 
   abbrev pub Out : (b : ℕ) → Answer linear.State → State → (input : List ℕ) → Type 0
-  Out b a s input = Outcome program.text f (frame_sizes program.functions) left Inv b bound a s input
+  Out b a s input = Outcome program.text f (frame_sizes program) left Inv b bound a s input
 
   -- the call's own part of what holds of a body's state
   has-blocks : (bases : Bases) (q : linear.State) → Inv bases q → HasBlocks program bases q.memory (f.before.regs s0) f.sp
@@ -110,7 +111,7 @@ module _ (program : Program) (can : ProgramCanRun program) (bound : ℕ) (meanin
       → LivesAlike q.memory m
       → IsBody program.text (at_bases f more) program.addresses p os (record { local = local; global = program.global }) m
   body-after bases more q m laid inv e same = record {
-    count = inv.body.count;
+    places = inv.body.places;
     objects = λ k below. object k (inv.body.objects k below);
     globals = λ k below. let g = inv.body.globals k below in (g.0, shows-more bases more e (program.global k) (slice_index program.addresses.globals k) g.1);
     buffer = record {
@@ -142,33 +143,48 @@ module _ (program : Program) (can : ProgramCanRun program) (bound : ℕ) (meanin
       (called : State) (same : (r : ℕ) → r ≢ ra → called.regs r ≡ s.regs r) (kept-memory : called.mem ≡ s.mem)
       (h : ComesBack program q.memory bases back g did called q.input) where
     abbrev after : linear.State
-    after = record { names = q.names; memory = g.memory; input = g.input }
+    after = record { names = names_after (is_lost f.temporaries) q.names; memory = g.memory; input = g.input }
 
     above : (a : ℕ) → f.sp ≤ a → IsOutside bases q.memory a → h.state.mem a ≡ s.mem a
     above a from out =
         let stack : called.regs sp ≡ f.sp = same sp (omega arith) ∙ rep.stack in
         h.above a (omega (arith, from, stack)) out ∙ ap (λ m. m a) kept-memory
 
-    place-kept : (r : ℕ) → IsPlaceRegister r → SameWord (s.regs r) (h.state.regs r)
-    place-kept r side =
-        let high = place-above r side in
+    register-kept : (r : ℕ) → IsSavedRegister r → SameWord (s.regs r) (h.state.regs r)
+    register-kept r side =
+        let high = place-above r (saved-is-place r side) in
         subst (λ x. SameWord x (h.state.regs r)) (same r (omega (arith, high))) (h.kept r side)
 
-    -- what a place holds is shown still
-    place : (k : ℕ) → k < f.places → Shows h.bases' (q.names k) (held f.sp h.state.regs h.state.mem (location_of k))
-    place k inside = shows-more bases h.bases' h.extends (q.names k) (held f.sp h.state.regs h.state.mem (location_of k)) (elim (cases_lt k 11) [
-      | inl low ↦
-          subst (Shows bases (q.names k)) (sym (held-at-register f k h.state.regs h.state.mem low))
-          (shows-same bases (q.names k) (s.regs (place_register k)) (h.state.regs (place_register k)) (place-kept (place_register k) (register-is-place k low))
-          (subst (Shows bases (q.names k)) (held-at-register f k s.regs s.mem low) (rep.places k inside)))
-      | inr high ↦
-          subst (Shows bases (q.names k))
-          (held-at-word f k s.regs s.mem high
-          ∙ sym (load-agrees s.mem h.state.mem (f.sp + 4 * (k - 11)) 4
-          (λ j under. above (f.sp + 4 * (k - 11) + j) (omega arith) (rep.apart (f.sp + 4 * (k - 11) + j) (omega arith) (omega (arith, inside, high, under)))))
-          ∙ sym (held-at-word f k h.state.regs h.state.mem high))
-          (rep.places k inside)
-    ])
+    -- what a place holds is shown still, where the call does not lose it
+    kept-place : (k : ℕ) → IsPlaceOf f k → is_lost f.temporaries k ≡ false → Shows h.bases' (q.names k) (held f.sp h.state.regs h.state.mem (location_of f.temporaries k))
+    kept-place k inside kept =
+        shows-more bases h.bases' h.extends (q.names k) (held f.sp h.state.regs h.state.mem (location_of f.temporaries k)) (elim (cases_lt k (11 + f.temporaries)) [
+          | inl low ↦
+              subst (Shows bases (q.names k)) (sym (held-at-register f k h.state.regs h.state.mem low))
+              (shows-same bases (q.names k) (s.regs (place_register k)) (h.state.regs (place_register k))
+              (register-kept (place_register k) (register-is-saved k (saved-where k low kept)))
+              (subst (Shows bases (q.names k)) (held-at-register f k s.regs s.mem low) (rep.places k inside)))
+          | inr high ↦
+              let within = word-within f k inside high in
+              subst (Shows bases (q.names k))
+              (held-at-word f k s.regs s.mem high
+              ∙ sym (load-agrees s.mem h.state.mem (word_address f k) 4
+              (λ j under. above (word_address f k + j) (omega arith) (rep.apart (word_address f k + j) (omega arith) (omega (arith, within, high, under)))))
+              ∙ sym (held-at-word f k h.state.regs h.state.mem high))
+              (rep.places k inside)
+        ])
+      where
+        saved-where : (k : ℕ) → k < 11 + f.temporaries → is_lost f.temporaries k ≡ false → k < 11
+        saved-where k low kept = elim (cases_lt k 11) [
+          | inl less ↦ less
+          | inr more ↦ absurd (both_ways (is_lost f.temporaries k) kept (and_from (nat_le 11 k) (nat_lt k (11 + f.temporaries)) (le-leb 11 k more) (lt-ltb k (11 + f.temporaries) low)))
+        ]
+
+    place : (k : ℕ) → IsPlaceOf f k → Shows h.bases' (names_after (is_lost f.temporaries) q.names k) (held f.sp h.state.regs h.state.mem (location_of f.temporaries k))
+    place k inside = elim (cases_Bool (is_lost f.temporaries k)) [
+      | inl lost ↦ rw lost tt
+      | inr kept ↦ rw kept (kept-place k inside kept)
+    ]
 
     represented : Represents program.text (at_bases f h.bases') after h.state
     represented = record {
@@ -176,7 +192,7 @@ module _ (program : Program) (can : ProgramCanRun program) (bound : ℕ) (meanin
       base = h.base ∙ same s0 (omega arith) ∙ rep.base;
       places = place;
       saved = λ k high low. same-then (f.before.regs (place_register k)) (s.regs (place_register k)) (h.state.regs (place_register k)) (rep.saved k high low)
-          (place-kept (place_register k) (register-is-place k low));
+          (register-kept (place_register k) (register-is-saved k low));
       above = λ a from out.
           let out' = outside-before program.text.flags bases h.bases' q.memory g.memory rep.memory.laid h.extends h.alike a out in
           above a (omega (arith, from)) out' ∙ rep.above a from out';
@@ -195,11 +211,11 @@ module _ (program : Program) (can : ProgramCanRun program) (bound : ℕ) (meanin
     }
 
     -- its value is put into its place
-    put-value : (t b : ℕ) → t < f.places → CodeStands program.text h.state.pc (select.put (location_of t) a0) b → b < 2 ^ 32
-        → Brings program.text f Inv b (record { names = linear.written q.names t g.value; memory = g.memory; input = g.input }) (did ++ []) called q.input
+    put-value : (t b : ℕ) → IsPlaceOf f t → CodeStands program.text h.state.pc (select.put (location_of f.temporaries t) a0) b → b < 2 ^ 32
+        → Brings program.text f Inv b (record { names = linear.written (names_after (is_lost f.temporaries) q.names) t g.value; memory = g.memory; input = g.input }) (did ++ []) called q.input
     put-value t b inside there low =
         let has = words-at program.text f h.bases' frame.has in
-        let w = put-done program.text (at_bases f h.bases') has h.state b a0 (h.state.regs a0) (location_of t) g.value represented.has_text represented.stack
+        let w = put-done program.text (at_bases f h.bases') has h.state b a0 (h.state.regs a0) (location_of f.temporaries t) g.value represented.has_text represented.stack
         (location-fits (at_bases f h.bases') t inside)
         there low (omega arith) (omega arith) refl h.value in
         let last = place-written program.text (at_bases f h.bases') has after h.state b t g.value represented inside w in
@@ -212,19 +228,19 @@ module _ (program : Program) (can : ProgramCanRun program) (bound : ℕ) (meanin
               (reaches_onwards program.text.flags h.count last.steps.count called h.state last.state q.input (output did) g.input [] g.input h.reaches
               (last.steps.reaches g.input));
           pc = last.pc;
-          shown = record { bases = h.bases'; inv = in-function (linear.written q.names t g.value); shows = last.shows };
+          shown = record { bases = h.bases'; inv = in-function (linear.written (names_after (is_lost f.temporaries) q.names) t g.value); shows = last.shows };
         }
 
   -- ---- the row
 
   module _ (t : ℕ) (bases : Bases) (q : linear.State) (s : State) (rep : Represents program.text (at_bases f bases) q s) (inv : Inv bases q)
-      (inside : place_at p t < f.places) where
+      (inside : HasPlaceIn f p t) where
     after-call : (b back : ℕ) (called : State) → ((r : ℕ) → r ≢ ra → called.regs r ≡ s.regs r) → called.mem ≡ s.mem
-        → CodeStands program.text back (select.put (location_of (place_at p t)) a0) b
+        → CodeStands program.text back (select.put (place_of p t) a0) b
         → b < 2 ^ 32 → (a : Answer (Given Value)) → CallOutcome program bound q.memory bases back a called q.input
-        → Out b (then_on a (back_from q (place_at p t))) called q.input
+        → Out b (then_on a (back_from (is_lost f.temporaries) q (place_at p t))) called q.input
     after-call b back called same mem there low a (inl h) =
-        inl (subst (λ n. Exceeds program.text.flags (frame_sizes program.functions) n (events (then_on a (back_from q (place_at p t)))) called q.input) space (more a h))
+        inl (subst (λ n. Exceeds program.text.flags (frame_sizes program) n (events (then_on a (back_from (is_lost f.temporaries) q (place_at p t)))) called q.input) space (more a h))
       where
         space : called.regs sp - called.regs s0 ≡ left
         space =
@@ -232,34 +248,35 @@ module _ (program : Program) (can : ProgramCanRun program) (bound : ℕ) (meanin
             let base : called.regs s0 ≡ f.before.regs s0 = same s0 (omega arith) ∙ rep.base in
             omega (arith, stack, base)
 
-        more : (a : Answer (Given Value)) → Exceeds program.text.flags (frame_sizes program.functions) (called.regs sp - called.regs s0) (events a) called q.input
-            → Exceeds program.text.flags (frame_sizes program.functions) (called.regs sp - called.regs s0) (events (then_on a (back_from q (place_at p t))))
+        more : (a : Answer (Given Value)) → Exceeds program.text.flags (frame_sizes program) (called.regs sp - called.regs s0) (events a) called q.input
+            → Exceeds program.text.flags (frame_sizes program) (called.regs sp - called.regs s0) (events (then_on a (back_from (is_lost f.temporaries) q (place_at p t))))
             called q.input
         more (Returned g o) h =
-            subst (λ es. Exceeds program.text.flags (frame_sizes program.functions) (called.regs sp - called.regs s0) es called q.input)
-            (sym (events-before o (back_from q (place_at p t) g)))
-            (exceeds-more program.text.flags (frame_sizes program.functions) (called.regs sp - called.regs s0) o [] called q.input h)
+            subst (λ es. Exceeds program.text.flags (frame_sizes program) (called.regs sp - called.regs s0) es called q.input)
+            (sym (events-before o (back_from (is_lost f.temporaries) q (place_at p t) g)))
+            (exceeds-more program.text.flags (frame_sizes program) (called.regs sp - called.regs s0) o [] called q.input h)
         more (Cut o) h = h
         more (Exited o status) h = h
         more (Undefined o) h = h
     after-call b back called same mem there low (Returned g o) (inr h) =
-        subst (λ x. Out b x called q.input) (sym (before-is o (back_from q (place_at p t) g)))
+        subst (λ x. Out b x called q.input) (sym (before-is o (back_from (is_lost f.temporaries) q (place_at p t) g)))
         (inr
-        (put-value bases q s rep inv back g o called same mem h (place_at p t) b inside
-        (subst (λ n. CodeStands program.text n (select.put (location_of (place_at p t)) a0) b) (sym h.pc) there) low))
+        (put-value bases q s rep inv back g o called same mem h (place_at p t) b inside.1
+        (subst (λ at. CodeStands program.text h.state.pc (select.put (at (place_at p t)) a0) b) (locations-same p f inside.0)
+        (subst (λ n. CodeStands program.text n (select.put (place_of p t) a0) b) (sym h.pc) there)) low))
     after-call b back called same mem there low (Cut o) (inr h) = inr h
     after-call b back called same mem there low (Exited o status) (inr h) = inr h
     after-call b back called same mem there low (Undefined o) (inr h) = inr tt
 
-  pub call-follows : (function t : ℕ) (xs : List ℕ) (q : linear.State) (s : State) (b : ℕ) → all_of (has_place p) (t ∷ xs) ≡ true → length xs ≤ 8 → f.places ≡ p.count
+  pub call-follows : (function t : ℕ) (xs : List ℕ) (q : linear.State) (s : State) (b : ℕ) → all_of (has_place p) (t ∷ xs) ≡ true → length xs ≤ 8 → HasPlaces f p
       → Shown program.text f Inv q s → ItemsStand program.text program.addresses labels s.pc (instr_items p os (call function t xs)) b → b < 2 ^ 32
       → slice_index program.addresses.functions function < 2 ^ 32 → slice_index program.addresses.functions function % 2 ≡ 0
       → Out b (instr_run context (placed_instr (place_at p) (call function t xs)) q) s q.input
   call-follows function t xs q s b placed few same shown there low target-low target-even =
-      steps-outcome program.text f (frame_sizes program.functions) left Inv b bound s two.state q.input
-      (then_on (meaning function arguments q.memory q.input) (back_from q (place_at p t)))
+      steps-outcome program.text f (frame_sizes program) left Inv b bound s two.state q.input
+      (then_on (meaning function arguments q.memory q.input) (back_from (is_lost f.temporaries) q (place_at p t)))
       (steps-then program.text.flags s one.state two.state one.steps two.steps)
-      (after-call t bases q one.state one.shows inv (place-below p f.places same t parts.0) b back.0 two.state two.others two.mem back.1 low
+      (after-call t bases q one.state one.shows inv (same, place-below p f same t parts.0) b back.0 two.state two.others two.mem back.1 low
       (meaning function arguments q.memory q.input)
       (run function arguments q.memory q.input bases back.0 two.state is-called))
     where
@@ -279,15 +296,15 @@ module _ (program : Program) (can : ProgramCanRun program) (bound : ℕ) (meanin
       parts = and_parts (has_place p t) (all_of (has_place p) xs) placed
 
       cut : (m : ℕ) × ItemsStand program.text program.addresses labels s.pc (words (get_arguments p a0 xs)) m
-          × ItemsStand program.text program.addresses labels m (item.Call function ∷ words (select.put (location_of (place_at p t)) a0)) b
+          × ItemsStand program.text program.addresses labels m (item.Call function ∷ words (select.put (place_of p t) a0)) b
       cut = items_are_cut program.text program.addresses labels s.pc b (words (get_arguments p a0 xs))
-          (item.Call function ∷ words (select.put (location_of (place_at p t)) a0)) there
+          (item.Call function ∷ words (select.put (place_of p t) a0)) there
 
-      back : (m : ℕ) × CodeStands program.text m (select.put (location_of (place_at p t)) a0) b
-      back = (cut.0 + 8, words_stand program.text program.addresses labels (cut.0 + 8) b (select.put (location_of (place_at p t)) a0) cut.2.2)
+      back : (m : ℕ) × CodeStands program.text m (select.put (place_of p t) a0) b
+      back = (cut.0 + 8, words_stand program.text program.addresses labels (cut.0 + 8) b (select.put (place_of p t) a0) cut.2.2)
 
       back-low : back.0 < 2 ^ 32
-      back-low = let le = code-le program.text back.0 (select.put (location_of (place_at p t)) a0) b back.1 in omega (arith, le, low)
+      back-low = let le = code-le program.text back.0 (select.put (place_of p t) a0) b back.1 in omega (arith, le, low)
 
       one : Loaded program.text (at_bases f bases) p cut.0 a0 xs q s
       one =

@@ -19,6 +19,7 @@ use Rattle.s_select_keeps.specs.Standing.{ItemsStand}
 use Rattle.s_select_keeps.specs.Steps.{Arrives}
 use Rattle.s_select_keeps.specs.Table.{place_at}
 use Rattle.s_select_keeps.proofs.Follows.{Out, Stand, LinesFollow, on-a-number}
+use Rattle.s_select_keeps.proofs.Locations.{HasPlaceIn}
 use Rattle.s_select_keeps.proofs.Lines.{lines-le, lines-cut, line-cut, label-here, branches-not-zero, branches-equal, jumps-once}
 use Rattle.s_select_keeps.proofs.Outcomes.{Shown, words-at, before-outcome, then-outcome, returns, arrives-outcome}
 
@@ -85,7 +86,7 @@ module _ (text : Text) (f : Frame) (sizes : ℕ → ℕ) (left : ℕ) (Inv : Bas
           end_is = end.0 ∙ ap Some same;
         }
 
-  module _ (x first : ℕ) (inside : place_at p x < f.places) where
+  module _ (x first : ℕ) (inside : HasPlaceIn f p x) where
     -- ---- codes of a choice but the last, each with its label, and before it the jump of what stands before it
 
     module _ (last b : ℕ) (low : b < 2 ^ 32) (is : labels last ≡ Some b) where
@@ -206,7 +207,7 @@ module _ (text : Text) (f : Frame) (sizes : ℕ → ℕ) (left : ℕ) (Inv : Bas
             (suc w) test.0 first over.0 shown.shows inside word test-low second.0 over-low test.1))
             (λ t shown' at. follows' q t b shown' (subst (λ a. At a k b) (sym at) (subst (λ y. At over.0 k y) end.1 second.1)) low)
 
-  pub choice-follows : (x first : ℕ) (ls : List (List Line)) (rs : List Run) → (1 < length ls → place_at p x < f.places) → AllFollow ls rs → length ls < 2 ^ 32
+  pub choice-follows : (x first : ℕ) (ls : List (List Line)) (rs : List Run) → (1 < length ls → HasPlaceIn f p x) → AllFollow ls rs → length ls < 2 ^ 32
       → Follow (choice_lines x first ls) (chosen_by (place_at p x) rs)
   choice-follows x first [] [] inside all few q s b shown there low = inr tt
   choice-follows x first (l ∷ []) (run ∷ []) inside all few q s b shown there low =

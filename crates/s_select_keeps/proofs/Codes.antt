@@ -1,5 +1,5 @@
 -- Where instructions do what they mean, so does the code of a body.
-use Rattle.std.proofs.Common.{◌≡◌, ℕ, suc, ◌+◌, ◌<◌, ◌≤◌, List, [], ◌∷◌, ◌++◌, map, length, Option, Some, refl, sym, ap, subst, ◌∙◌, arith}
+use Rattle.std.proofs.Common.{◌≡◌, ℕ, suc, ◌+◌, ◌≤◌, List, [], ◌∷◌, ◌++◌, map, Option, Some, sym, ap, subst, ◌∙◌, arith}
 use Rattle.val_core.specs.Answers.{then_on}
 use Rattle.g_graph.specs.Plain.{PlainObject}
 use Rattle.rv_machine.specs.Standing.{Text}
@@ -8,24 +8,21 @@ use Rattle.s_linear.specs.Frame.{PlainPlaces}
 use Rattle.s_linear.specs.Linear.{Instr, Step, plain, choice, loop, Code, no_steps, step_then, Codes, no_codes, code_then}
 use Rattle.s_linear.specs.Lines.{Line, done, branch_zero, jump, label, counted, last_from, others_from, step_labels, code_labels, step_lines, code_lines, codes_lines}
 use Rattle.s_linear.specs.Meaning as linear
+use Rattle.s_linear.proofs.lemmas.Passing.{length_codes}
 use Rattle.s_linear.specs.Meaning.{Context, instrs_run, turns, step_run, code_run, codes_runs}
 use Rattle.a_place.specs.Placed.{placed_instr, placed_step, placed_code, placed_codes}
 use Rattle.s_select_keeps.specs.Codes.{InstrsFit, StepFits, CodeFits, CodesFit}
 use Rattle.s_select_keeps.specs.Relation.{Bases, Frame, HasWords}
-use Rattle.s_select_keeps.specs.Table.{place_at}
+use Rattle.s_select_keeps.specs.Table.{place_at, HasPlaces}
 use Rattle.s_select_keeps.proofs.Choices.{AllFollow, choice-follows}
 use Rattle.s_select_keeps.proofs.Follows.{Stand, LinesFollow, InstrFollows, moved, predicate-below, instrs-follow, LoopStands, turns-follow}
+use Rattle.s_select_keeps.proofs.Locations.{HasPlaceIn}
 use Rattle.s_select_keeps.proofs.Lines.{lines-le, lines-cut, line-cut, label-here}
 use Rattle.s_select_keeps.proofs.Outcomes.{then-outcome, returns}
 
-pub length-codes : (last others : ℕ) (cs : Codes) → length (codes_lines last others cs) ≡ counted cs
-length-codes last others no_codes = refl
-length-codes last others (code_then k no_codes) = refl
-length-codes last others (code_then k (code_then j ks)) = ap suc (length-codes last (others + code_labels k) (code_then j ks))
-
 module _ (text : Text) (f : Frame) (sizes : ℕ → ℕ) (left : ℕ) (Inv : Bases → linear.State → Type 0) (has : HasWords text f) (addresses : Addresses)
     (labels : ℕ → Option ℕ) (p : PlainPlaces)
-    (os : List PlainObject) (c : Context) (count : f.places ≡ p.count) (fits : Instr → Type 0)
+    (os : List PlainObject) (c : Context) (same : HasPlaces f p) (fits : Instr → Type 0)
     (instr : (i : Instr) → fits i → InstrFollows text f sizes left Inv has addresses labels p os c i) where
   abbrev At : ℕ → List Line → ℕ → Type 0
   At a ls b = Stand text f sizes left Inv has addresses labels p os c a ls b
@@ -44,7 +41,7 @@ module _ (text : Text) (f : Frame) (sizes : ℕ → ℕ) (left : ℕ) (Inv : Bas
       (instr i fit q s cut.0 shown cut.1 (omega (arith, end, low)))
 
   -- the variables are moved in, and the loop's parts stand one after the other
-  loop-follows : (first x : ℕ) (moves back : List Instr) (body : List Line) (run : linear.Run) → InstrsFit fits moves → place_at p x < f.places
+  loop-follows : (first x : ℕ) (moves back : List Instr) (body : List Line) (run : linear.Run) → InstrsFit fits moves → HasPlaceIn f p x
       → InstrsFit fits back → Follow body run
       → Follow (map done moves ++ label first ∷ body ++ branch_zero x (suc first) ∷ map done back ++ jump first ∷ label (suc first) ∷ [])
       (λ q. then_on (instrs_run c (map (placed_instr (place_at p)) moves) q) (turns c.bound run (place_at p x) (instrs_run c (map (placed_instr (place_at p)) back))))
@@ -110,15 +107,15 @@ module _ (text : Text) (f : Frame) (sizes : ℕ → ℕ) (left : ℕ) (Inv : Bas
     step-follows (choice x cs) first fit =
         let later = first + counted cs in
         let ls = codes_lines (last_from later cs) (others_from later cs) cs in
-        let same = length-codes (last_from later cs) (others_from later cs) cs in
+        let all = length_codes (last_from later cs) (others_from later cs) cs in
         let few = fit.1 in
         choice-follows text f sizes left Inv has addresses labels p os c x first ls (codes_runs c (placed_codes (place_at p) cs))
-        (λ two. predicate-below text f sizes left Inv has addresses labels p os c x count (fit.0 (omega (arith, two, same))))
+        (λ two. predicate-below text f sizes left Inv has addresses labels p os c x same (fit.0 (omega (arith, two, all))))
         (codes-follow cs (last_from later cs) (others_from later cs) fit.2)
-        (omega (arith, few, same))
+        (omega (arith, few, all))
     step-follows (loop moves body x back) first fit =
         loop-follows first x moves back (code_lines (2 + first) body) (code_run c (placed_code (place_at p) body)) fit.0
-        (predicate-below text f sizes left Inv has addresses labels p os c x count fit.2) fit.3 (code-follows body (2 + first) fit.1)
+        (predicate-below text f sizes left Inv has addresses labels p os c x same fit.2) fit.3 (code-follows body (2 + first) fit.1)
 
     pub code-follows : (k : Code) (first : ℕ) → CodeFits fits p k → Follow (code_lines first k) (code_run c (placed_code (place_at p) k))
     code-follows no_steps first fit q s b shown there low = returns text f sizes left Inv b c.bound q s shown there

@@ -88,7 +88,7 @@ module _ (program : Program) (can : ProgramCanRun program) (p : PlainPlaces) (os
   addresses = opened_bases bases (length m) (length os) at
 
   abbrev pub frame : Frame
-  frame = record { places = p.count; sp = bottom; bases = addresses; before = taken.state }
+  frame = record { count = p.count; temporaries = p.temporaries; sp = bottom; bases = addresses; before = taken.state }
 
   pub base-is : taken.state.regs s0 ≡ s.regs s0
   base-is = taken.others s0 (omega arith) (omega arith) (omega arith) (omega arith)
@@ -197,7 +197,7 @@ module _ (program : Program) (can : ProgramCanRun program) (p : PlainPlaces) (os
   pub in-function : InFunction program frame p os local blocks addresses first
   in-function = record {
     body = record {
-      count = refl;
+      places = (refl, refl);
       objects = object;
       globals = λ k below. let g = called.has.globals k below in
           (g.0, shows-more bases addresses extends (program.global k) (slice_index program.addresses.globals k) g.1);

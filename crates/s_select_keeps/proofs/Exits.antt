@@ -39,14 +39,14 @@ unfolding act
 exit_is_done text f q s words rep a w b below is there low =
     ends text s two.state w (steps-then text.flags s one.state two.state one.steps two.steps) has2 code2.0 two.holds status
   where
-    cut : (c : ℕ) × CodeStands text s.pc (get a0 (location_of a)) c × CodeStands text c (Addi a7 x0 exit_call ∷ Ecall ∷ []) b
-    cut = code_is_cut text s.pc b (get a0 (location_of a)) (Addi a7 x0 exit_call ∷ Ecall ∷ []) there
+    cut : (c : ℕ) × CodeStands text s.pc (get a0 (location_of f.temporaries a)) c × CodeStands text c (Addi a7 x0 exit_call ∷ Ecall ∷ []) b
+    cut = code_is_cut text s.pc b (get a0 (location_of f.temporaries a)) (Addi a7 x0 exit_call ∷ Ecall ∷ []) there
 
     small : cut.0 < 2 ^ 32
     small = let le = code-le text cut.0 (Addi a7 x0 exit_call ∷ Ecall ∷ []) b cut.2 in omega (arith, le, low)
 
     got : (x : ℕ) × Shows f.bases (q.names a) x × Computes text s cut.0 a0 x
-    got = get-done text f words s cut.0 a0 (location_of a) (q.names a) rep.has_text rep.stack (location-fits f a below) cut.1 small (omega arith) (rep.places a below)
+    got = get-done text f words s cut.0 a0 (location_of f.temporaries a) (q.names a) rep.has_text rep.stack (location-fits f a below) cut.1 small (omega arith) (rep.places a below)
 
     one : Computes text s cut.0 a0 got.0
     one = got.2

@@ -1,6 +1,5 @@
 -- Where instructions do what they mean, so do lists of them and loops.
-use Rattle.std.proofs.Common.{◌≡◌, ℕ, zero, suc, ◌^◌, ◌<◌, ◌≤◌, ◌==◌, if◌then◌else◌, Bool, true, false, List, [], ◌∷◌, map, slice_get, Option, Some, is_some, nat_lt, refl, sym, subst, ◌∙◌, arith, inr}
-use Rattle.std.proofs.lemmas.Bool.{and_parts, ltb-true}
+use Rattle.std.proofs.Common.{◌≡◌, ℕ, zero, suc, ◌^◌, ◌<◌, ◌≤◌, ◌==◌, if◌then◌else◌, Bool, true, false, List, [], ◌∷◌, map, Option, Some, refl, sym, subst, ◌∙◌, arith, inr}
 use Rattle.val_core.specs.declared.values.Value.{Value}
 use Rattle.val_core.specs.declared.values.Value.TheVariants.{Num, At, Bad}
 use Rattle.val_core.specs.Answers.{Answer, Returned, then_on, on_number}
@@ -22,7 +21,8 @@ use Rattle.s_select_keeps.specs.Codes.{InstrsFit, LinesStand}
 use Rattle.s_select_keeps.specs.Relation.{Bases, Frame, at_bases, HasWords}
 use Rattle.s_select_keeps.specs.Standing.{ItemsStand}
 use Rattle.s_select_keeps.specs.Steps.{Arrives}
-use Rattle.s_select_keeps.specs.Table.{place_at}
+use Rattle.s_select_keeps.specs.Table.{place_at, HasPlaces}
+use Rattle.s_select_keeps.proofs.Locations.{HasPlaceIn, place-below}
 use Rattle.s_select_keeps.proofs.Lines.{lines-le, line-cut, branches-zero, jumps-once}
 use Rattle.s_select_keeps.proofs.Outcomes.{Outcome, Shown, words-at, before-outcome, then-outcome, weaker, returns, arrives-outcome}
 
@@ -49,10 +49,8 @@ module _ (text : Text) (f : Frame) (sizes : ℕ → ℕ) (left : ℕ) (Inv : Bas
   moved b b' least a s input e h = subst (λ x. Out x least a s input) e h
 
   -- the place of a predicate is one of the frame's
-  pub predicate-below : (x : ℕ) → f.places ≡ p.count → has_place p x ≡ true → place_at p x < f.places
-  predicate-below x same e =
-      let less : place_at p x < p.count =
-      ltb-true (place_at p x) p.count (and_parts (is_some (slice_get p.of x)) (nat_lt (place_at p x) p.count) e).1 in omega (arith, less, same)
+  pub predicate-below : (x : ℕ) → HasPlaces f p → has_place p x ≡ true → HasPlaceIn f p x
+  predicate-below x same e = (same, place-below p f same x e)
 
   -- nothing is said where there is no number
   pub on-a-number : (b least : ℕ) (v : Value) (next : ℕ → Answer linear.State) (s : State) (input : List ℕ) → ((w : ℕ) → v ≡ Num w → Out b least (next w) s input)
@@ -73,7 +71,7 @@ module _ (text : Text) (f : Frame) (sizes : ℕ → ℕ) (left : ℕ) (Inv : Bas
 
   -- ---- loops: the body from the label on, the branch to the end, the variables back and the jump to the label
 
-  module _ (x first : ℕ) (inside : place_at p x < f.places) (body back : List Line) (body_run back_run : linear.Run) (body_follows : LinesFollow body body_run)
+  module _ (x first : ℕ) (inside : HasPlaceIn f p x) (body back : List Line) (body_run back_run : linear.Run) (body_follows : LinesFollow body body_run)
       (back_follows : LinesFollow back back_run) where
     -- where the parts of the loop stand
     pub record LoopStands (start end : ℕ) : Type 0 where

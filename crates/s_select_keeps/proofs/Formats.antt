@@ -1,5 +1,5 @@
 -- The instructions of templates fit their formats.
-use Rattle.std.proofs.Common.{ℕ, zero, suc, ◌+◌, ◌*◌, ◌/◌, ◌%◌, ◌^◌, ◌<◌, ◌≤◌, ◌==◌, ◌⊎◌, cond, Bool, true, false, List, [], ◌∷◌, ◌++◌, unwrap_or, refl, arith, inl, inr, lit<}
+use Rattle.std.proofs.Common.{ℕ, zero, suc, ◌+◌, ◌*◌, ◌/◌, ◌%◌, ◌^◌, ◌<◌, ◌≤◌, ◌==◌, ◌⊎◌, if◌then◌else◌, cond, Bool, true, false, List, [], ◌∷◌, ◌++◌, unwrap_or, refl, arith, inl, inr, lit<}
 use Rattle.std.proofs.lemmas.Bool.{cases_lt, lt-ltb, le-ltb}
 use Rattle.val_core.specs.declared.operation.Op1.{Op1}
 use Rattle.val_core.specs.declared.operation.Op1.TheVariants.{Sext8, Zext8, Sext16, Zext16}
@@ -25,8 +25,6 @@ use Rattle.s_select.specs.declared.location.Location.TheVariants.{Register, Near
 use Rattle.s_select.specs.Operands.{negative, place_register, load_immediate, get, put, in_of, load_in, out_of, store_out}
 use Rattle.s_select.specs.Templates.{words, save_places, restore_places, take_frame, give_frame, binary_code, unary_code, load_instr, store_instr, with_two, with_one, with_none, move_code, clear_code}
 use Rattle.s_select_keeps.specs.Formats.{WordsFit, ItemsFit}
-use Rattle.s_select_keeps.proofs.Locations.{register-is-place}
-use Rattle.s_select_keeps.specs.Relation.{IsPlaceRegister}
 
 pub words-fit : (code : List Instr) → AllFit code → WordsFit (words code)
 words-fit [] fit = tt
@@ -165,26 +163,26 @@ items_fit addresses labels at (Address r k ∷ is) fit reach =
 negative-fits : (d : ℕ) → 0 < d → d ≤ 2048 → IsSigned 12 (negative d)
 negative-fits d some few = (omega (arith, some), omega (arith, some, few))
 
-pub place-fits : (n : ℕ) → n < 11 → place_register n < 32
-place-fits n few = by (register-is-place n few)
+pub place-fits : (n : ℕ) → n < 15 → place_register n < 32
+place-fits n few = by (n == 0)
   where
-    by : IsPlaceRegister (place_register n) → place_register n < 32
-    by (inl nine) = omega (arith, nine)
-    by (inr range) = let high = range.1 in omega (arith, high)
+    by : (test : Bool) → (if test then 9 else n + 17) < 32
+    by true = omega arith
+    by false = omega (arith, few)
 
 saves-fit : (n : ℕ) → n ≤ 11 → AllFit (save_places n)
 unfolding FitsFormat
 saves-fit zero few = tt
 saves-fit (suc n) few =
     fits-append (save_places n) (rv.Sw t1 (place_register n) (negative (8 + 4 * n)) ∷ []) (saves-fit n (omega (arith, few)))
-    ((negative-fits (8 + 4 * n) (omega arith) (omega (arith, few)), place-fits n few, lit< tt), tt)
+    ((negative-fits (8 + 4 * n) (omega arith) (omega (arith, few)), place-fits n (omega (arith, few)), lit< tt), tt)
 
 restores-fit : (n : ℕ) → n ≤ 11 → AllFit (restore_places n)
 unfolding FitsFormat
 restores-fit zero few = tt
 restores-fit (suc n) few =
     fits-append (restore_places n) (rv.Lw (place_register n) t1 (negative (8 + 4 * n)) ∷ []) (restores-fit n (omega (arith, few)))
-    ((negative-fits (8 + 4 * n) (omega arith) (omega (arith, few)), lit< tt, place-fits n few), tt)
+    ((negative-fits (8 + 4 * n) (omega arith) (omega (arith, few)), lit< tt, place-fits n (omega (arith, few))), tt)
 
 pub taken-fits : (size saved : ℕ) → size < 2 ^ 32 → saved ≤ 11 → AllFit (take_frame size saved)
 unfolding FitsFormat

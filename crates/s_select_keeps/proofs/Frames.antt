@@ -207,7 +207,7 @@ frame_is_taken text s size saved e has frame there low enough = record {
         two.holds within few writes code4 low
 
     place-register-above : (k : ℕ) → k < 11 → 8 < place_register k
-    place-register-above k below = place-above (place_register k) (register-is-place k below)
+    place-register-above k below = place-above (place_register k) (register-is-place k)
 
     unchanged : (r : ℕ) → 8 < r → two.state.regs r ≡ s.regs r
     unchanged r above =
@@ -245,7 +245,7 @@ record Restored (text : Text) (s : State) (size saved e : ℕ) : Type 0 where
   mem : state.mem ≡ s.mem
 
 place-register-above : (k : ℕ) → k < 11 → 8 < place_register k
-place-register-above k below = place-above (place_register k) (register-is-place k below)
+place-register-above k below = place-above (place_register k) (register-is-place k)
 
 -- the frame's end is in t1
 record FindsEnd (text : Text) (s : State) (size e : ℕ) (rest : List Instr) : Type 0 where

@@ -16,7 +16,7 @@ use Rattle.a_place.specs.Placed.{placed_instr, placed_code}
 use Rattle.s_select_keeps.specs.Codes.{CodeFits, LinesStand}
 use Rattle.s_select_keeps.specs.Functions.{Program, ProgramCanRun, InstrCanRun, frame_sizes, CallsRun}
 use Rattle.s_select_keeps.specs.Relation.{Bases, Frame, at_bases}
-use Rattle.s_select_keeps.specs.Table.{place_at, IsPlain, InstrIsDone}
+use Rattle.s_select_keeps.specs.Table.{place_at, HasPlaces, IsPlain, InstrIsDone}
 use Rattle.s_select_keeps.proofs.Bodies.{Leaves, leaves, body-same, gives-more, reached}
 use Rattle.s_select_keeps.proofs.CallRows.{BodyStack, InFunction, context, Out, call-follows}
 use Rattle.s_select_keeps.proofs.Codes.{code-follows}
@@ -27,7 +27,7 @@ use Rattle.s_select_keeps.proofs.Stores.{SameBlocks, alike}
 
 module _ (program : Program) (can : ProgramCanRun program) (bound : ℕ) (meaning : ℕ → Call) (run : CallsRun program bound meaning) (f : Frame) (p : PlainPlaces)
     (os : List PlainObject)
-    (local : ℕ → Value) (blocks : Memory) (frame : BodyStack program f blocks) (labels : ℕ → Option ℕ) (count : f.places ≡ p.count) (done : InstrIsDone)
+    (local : ℕ → Value) (blocks : Memory) (frame : BodyStack program f blocks) (labels : ℕ → Option ℕ) (same : HasPlaces f p) (done : InstrIsDone)
     (store-keeps : StoreKeepsBlocks)
     (clear-keeps : ClearKeepsBlocks) where
   abbrev C : linear.Context
@@ -37,10 +37,10 @@ module _ (program : Program) (can : ProgramCanRun program) (bound : ℕ) (meanin
   I bases q = InFunction program f p os local blocks bases q
 
   abbrev Follow : Instr → Type 0
-  Follow i = InstrFollows program.text f (frame_sizes program.functions) (f.sp - f.before.regs 8) I frame.has program.addresses labels p os C i
+  Follow i = InstrFollows program.text f (frame_sizes program) (f.sp - f.before.regs 8) I frame.has program.addresses labels p os C i
 
-  same-length : (m m' : Memory) → SameBlocks m m' → length m' ≡ length m
-  same-length m m' h = sym (length-map m' shape_of) ∙ ap length (sym h.shapes) ∙ length-map m shape_of
+  length-same : (m m' : Memory) → SameBlocks m m' → length m' ≡ length m
+  length-same m m' h = sym (length-map m' shape_of) ∙ ap length (sym h.shapes) ∙ length-map m shape_of
 
   kept : (bases : Bases) (q x : linear.State) → I bases q → Leaves q x → I bases x
   kept bases q x inv h = record {
@@ -48,14 +48,14 @@ module _ (program : Program) (can : ProgramCanRun program) (bound : ℕ) (meanin
     bytes = h.1;
     extends = inv.extends;
     alike = alike-then blocks q.memory x.memory inv.alike (alike q.memory x.memory h.0);
-    fresh = λ n past. (let same = same-length q.memory x.memory h.0 in inv.fresh n (omega (arith, past, same)));
+    fresh = λ n past. (let equal = length-same q.memory x.memory h.0 in inv.fresh n (omega (arith, past, equal)));
   }
 
   plain-follows : (i : Instr) → InstrCanRun p (length os) (length program.addresses.globals) i → IsPlain i → Follow i
   plain-follows i fits plain q s b shown there low =
       let answer = instr_run C (placed_instr (place_at p) i) q in
       inr
-      (reached program.text f (frame_sizes program.functions) (f.sp - f.before.regs 8) I shown.bases b bound answer s q.input
+      (reached program.text f (frame_sizes program) (f.sp - f.before.regs 8) I shown.bases b bound answer s q.input
       (done program.text (at_bases f shown.bases) program.addresses labels p os C q s i b bound (words-at program.text f shown.bases frame.has) shown.shows shown.inv.body
       shown.inv.bytes fits.0 fits.1
       fits.2 plain there low)
@@ -65,7 +65,7 @@ module _ (program : Program) (can : ProgramCanRun program) (bound : ℕ) (meanin
   instr-follows (const t w) fits = plain-follows (const t w) fits fits.3
   instr-follows (call n t xs) fits = λ q s b shown there low.
       let entry = can.entries n in
-      call-follows program can bound meaning run f p os local blocks frame labels n t xs q s b fits.0 (leb-true (length xs) 8 fits.4) count shown there low
+      call-follows program can bound meaning run f p os local blocks frame labels n t xs q s b fits.0 (leb-true (length xs) 8 fits.4) same shown there low
       entry.0 entry.1
   instr-follows (undef t) fits = plain-follows (undef t) fits tt
   instr-follows (object_address t k) fits = plain-follows (object_address t k) fits tt
@@ -86,6 +86,6 @@ module _ (program : Program) (can : ProgramCanRun program) (bound : ℕ) (meanin
       → LinesStand program.text program.addresses labels p os s.pc (code_lines first k) b → b < 2 ^ 32
       → Out program can bound meaning run f p os local blocks frame labels b (code_run C (placed_code (place_at p) k) q) s q.input
   body-follows k first q s b fits shown there low =
-      code-follows program.text f (frame_sizes program.functions) (f.sp - f.before.regs 8) I frame.has program.addresses labels p os C count
+      code-follows program.text f (frame_sizes program) (f.sp - f.before.regs 8) I frame.has program.addresses labels p os C same
       (InstrCanRun p (length os) (length program.addresses.globals))
       instr-follows k first fits q s b shown there low

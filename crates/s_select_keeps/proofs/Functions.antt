@@ -20,24 +20,24 @@ use Rattle.rv_machine.specs.Run.{Hart, RunResult, run, running, ended, standing}
 use Rattle.rv_machine.specs.Standing.{Text, CodeStands}
 use Rattle.rv_machine.proofs.lemmas.Standing.{code_is_cut}
 use Rattle.rv_machine.proofs.lemmas.RunLaws.{run-zero, run_goes_on, reaches_onwards}
-use Rattle.s_linear.specs.Frame.{PlainPlaces, saved_of, words_of, frame_size}
+use Rattle.s_linear.specs.Frame.{PlainPlaces, is_lost, saved_of, words_of, frame_size}
 use Rattle.s_linear.specs.Linear.{LinearFunction}
 use Rattle.s_linear.specs.Lines.{enter, leave, code_lines}
 use Rattle.val_core.specs.Numbers.{numbers_from}
 use Rattle.s_linear.specs.Meaning as linear
 use Rattle.s_linear.specs.Meaning.{Call, code_run, first_names, no_names}
-use Rattle.a_place.specs.Placed.{placed, placed_code, placed_calls, placed_entered, put_params}
-use Rattle.s_select.specs.Operands.{location_of, get}
+use Rattle.a_place.specs.Placed.{placed_code, placed_calls, placed_entered, put_params}
+use Rattle.s_select.specs.Operands.{get}
 use Rattle.s_select.specs.Templates as select
-use Rattle.s_select.specs.Templates.{take_frame, give_frame, line_items}
+use Rattle.s_select.specs.Templates.{place_of, take_frame, give_frame, line_items}
 use Rattle.s_select_keeps.specs.Codes.{LinesStand}
 use Rattle.s_select_keeps.specs.Frames.{Taken}
-use Rattle.s_select_keeps.specs.Functions.{Program, ProgramCanRun, FunctionStands, places_of, frame_of, frame_sizes, IsCalled, ComesBack, CallOutcome, CallsRun, FunctionsRun}
+use Rattle.s_select_keeps.specs.Functions.{Program, ProgramCanRun, FunctionStands, placed_by, frame_of, frame_sizes, IsCalled, ComesBack, CallOutcome, CallsRun, FunctionsRun}
 use Rattle.s_select_keeps.specs.Relation.{Bases, Extends, Shows, ShowsMemory, IsOutside, IsLive, Frame, at_bases, Represents}
 use Rattle.s_select_keeps.specs.Standing.{ItemsStand}
 use Rattle.s_select_keeps.specs.Steps.{Steps, Arrives, Exceeds}
 use Rattle.s_select_keeps.specs.Table.{place_at, InstrIsDone}
-use Rattle.s_select_keeps.proofs.Arguments.{params_are_put, place-below}
+use Rattle.s_select_keeps.proofs.Arguments.{params_are_put}
 use Rattle.s_select_keeps.proofs.CallRows.{BodyStack, InFunction, Out}
 use Rattle.s_select_keeps.proofs.Entries as entry
 use Rattle.s_select_keeps.proofs.Extended.{shows-more, extends-then}
@@ -45,6 +45,7 @@ use Rattle.s_select_keeps.proofs.Frames.{frame_is_taken, stack_is_exceeded}
 use Rattle.s_select_keeps.proofs.FunctionBodies.{body-follows}
 use Rattle.s_select_keeps.proofs.Items.{words_stand}
 use Rattle.s_select_keeps.proofs.Lines.{lines-le, lines-cut, line-cut}
+use Rattle.s_select_keeps.proofs.Locations.{place-below}
 use Rattle.s_select_keeps.proofs.Opened.{closed-alike, closed-shown, length-closed}
 use Rattle.s_select_keeps.proofs.Outcomes.{Shown, Brings, events-before, exceeds-more}
 use Rattle.s_select_keeps.proofs.Registers.{steps-then, code-le}
@@ -83,7 +84,7 @@ exceeds-called flags sizes left left' f n es s t input reaches enough h = record
 module _ (program : Program) (can : ProgramCanRun program) (bound : ℕ) (meaning : ℕ → Call) (calls : CallsRun program bound meaning) (done : InstrIsDone)
     (store-keeps : StoreKeepsBlocks)
     (clear-keeps : ClearKeepsBlocks) (new-keep : NewBlocksKeepLoads) (closed-keep : ClosedBlocksKeepLoads) (k : ℕ) (p : PlainPlaces) (f : LinearFunction)
-    (stands : FunctionStands program (slice_index program.addresses.functions k) p f) (size-is : frame_sizes program.functions k ≡ frame_size p.count f.objects)
+    (stands : FunctionStands program (slice_index program.addresses.functions k) p f) (size-is : frame_sizes program k ≡ frame_size p.count f.objects)
     (vs : List Value) (m : Memory)
     (input : List ℕ) (bases : Bases) (back : ℕ) (s : State) (is-called : IsCalled program k vs m input bases back s) where
   abbrev os : List PlainObject
@@ -139,7 +140,7 @@ module _ (program : Program) (can : ProgramCanRun program) (bound : ℕ) (meanin
 
   -- ---- the stack does not suffice
 
-  exceeds : s.regs sp - s.regs s0 < size → (es : List Event) → Exceeds text.flags (frame_sizes program.functions) (s.regs sp - s.regs s0) (called k es) s input
+  exceeds : s.regs sp - s.regs s0 < size → (es : List Event) → Exceeds text.flags (frame_sizes program) (s.regs sp - s.regs s0) (called k es) s input
   exceeds less es =
       let h = stack_is_exceeded text s size saved entered.0 is-called.stack (entry.is-size p os stands.can.range) taking entered-low less in
       record {
@@ -148,7 +149,7 @@ module _ (program : Program) (can : ProgramCanRun program) (bound : ℕ) (meanin
         rest = input;
         runs = h.runs input;
         begins = (output (called k es), refl);
-        more = (let all = called_deepens (frame_sizes program.functions) k es in let is = size-is in omega (arith, less, all, is));
+        more = (let all = called_deepens (frame_sizes program) k es in let is = size-is in omega (arith, less, all, is));
       }
 
   -- ---- it does
@@ -186,7 +187,7 @@ module _ (program : Program) (can : ProgramCanRun program) (bound : ℕ) (meanin
     put =
         params_are_put text F (entry.first program can p os stands.can.range stands.can.leaves k vs m input bases back s is-called enough entered.0 taken) taken.state
         (entry.has-words program can p os stands.can.range stands.can.leaves k vs m input bases back s is-called enough entered.0 taken)
-        (entry.represents program can p os stands.can.range stands.can.leaves k vs m input bases back s is-called enough entered.0 taken new-keep) p xs vs whole.0 refl
+        (entry.represents program can p os stands.can.range stands.can.leaves k vs m input bases back s is-called enough entered.0 taken new-keep) p xs vs whole.0 (refl, refl)
         stands.can.params stands.can.few
         (λ j below.
         subst (Shows fresh_bases (first_names vs j)) (sym (taken.others (a0 + j) (omega arith) (omega arith) (omega arith) (omega arith)))
@@ -211,7 +212,7 @@ module _ (program : Program) (can : ProgramCanRun program) (bound : ℕ) (meanin
         (λ same. let is = put.shows.stack in let holds = (entry.is-size p os stands.can.range).holds in omega (arith, same, is, holds, enough))
 
     abbrev answer : Answer linear.State
-    answer = code_run (record { bound = bound; call = meaning; addresses = record { local = local; global = program.global } }) (placed_code (place_at p) f.code) start
+    answer = code_run (record { bound = bound; call = meaning; lost = is_lost p.temporaries; addresses = record { local = local; global = program.global } }) (placed_code (place_at p) f.code) start
 
     abbrev give : linear.State → Answer (Given Value)
     give q = Returned (record { value = q.names (place_at p f.value); memory = closed (length m) (length os) q.memory; input = q.input }) []
@@ -221,11 +222,11 @@ module _ (program : Program) (can : ProgramCanRun program) (bound : ℕ) (meanin
 
     body : Out program can bound meaning calls F p os local all stack-body stands.labels code.0 answer put.state input
     body =
-        body-follows program can bound meaning calls F p os local all stack-body stands.labels refl done store-keeps clear-keeps f.code 0 start put.state code.0
+        body-follows program can bound meaning calls F p os local all stack-body stands.labels (refl, refl) done store-keeps clear-keeps f.code 0 start put.state code.0
         stands.can.code shown
         (subst (λ a. LinesStand text program.addresses stands.labels p os a (code_lines 0 f.code) code.0) (sym put.pc) code.1) code-low
 
-    space : s.regs sp - s.regs s0 ≤ F.sp - F.before.regs s0 + frame_sizes program.functions k
+    space : s.regs sp - s.regs s0 ≤ F.sp - F.before.regs s0 + frame_sizes program k
     space = let is = base-is in let sizes = size-is in omega (arith, is, sizes, enough)
 
     -- the frame is given back
@@ -264,16 +265,16 @@ module _ (program : Program) (can : ProgramCanRun program) (bound : ℕ) (meanin
         rep : Represents text (at_bases F more) q h.state
         rep = h.shown.shows
 
-        there : CodeStands text h.state.pc (get a0 (location_of (place_at p f.value)) ++ give_frame size saved) last.0
+        there : CodeStands text h.state.pc (get a0 (place_of p f.value) ++ give_frame size saved) last.0
         there =
-            subst (λ a. CodeStands text a (get a0 (location_of (place_at p f.value)) ++ give_frame size saved) last.0) (sym h.pc)
-            (words_stand text program.addresses stands.labels code.0 last.0 (get a0 (location_of (place_at p f.value)) ++ give_frame size saved) last.1)
+            subst (λ a. CodeStands text a (get a0 (place_of p f.value) ++ give_frame size saved) last.0) (sym h.pc)
+            (words_stand text program.addresses stands.labels code.0 last.0 (get a0 (place_of p f.value) ++ give_frame size saved) last.1)
 
         e : ending.Ended program can p os stands.can.range stands.can.leaves k vs m input bases back s is-called enough entered.0 taken q more
             (place_at p f.value) h.state
         e =
             ending.ends program can p os stands.can.range stands.can.leaves k vs m input bases back s is-called enough entered.0 taken q more inv (place_at p f.value)
-            (place-below p p.count refl f.value stands.can.value) h.state rep last.0 there last-low
+            (place-below p F (refl, refl) f.value stands.can.value) h.state rep last.0 there last-low
 
         above : (a : ℕ) → s.regs sp ≤ a → IsOutside bases m a → e.state.mem a ≡ s.mem a
         above a from out =
@@ -282,7 +283,7 @@ module _ (program : Program) (can : ProgramCanRun program) (bound : ℕ) (meanin
             ∙ rep.above a (omega (arith, from, ends, enough))
             (λ live. by (ending.live-now program can p os stands.can.range stands.can.leaves k vs m input bases back s is-called enough entered.0 taken q more inv
             (place_at p f.value)
-            (place-below p p.count refl f.value stands.can.value) h.state rep last.0 there last-low a live))
+            (place-below p F (refl, refl) f.value stands.can.value) h.state rep last.0 there last-low a live))
             ∙ taken.memory a (inr from)
           where
             by : IsLive bases m a ⊎ ((F.sp + 4 * words_of p.count ≤ a) × (a < s.regs sp - (4 + 4 * saved))) → ⊥
@@ -293,16 +294,16 @@ module _ (program : Program) (can : ProgramCanRun program) (bound : ℕ) (meanin
         → CallOutcome program (suc bound) m bases back (active k (then_on a give)) s input
     finish a (inl h) =
         inl
-        (subst (λ es. Exceeds text.flags (frame_sizes program.functions) (s.regs sp - s.regs s0) es s input) (sym (events-active k (then_on a give)))
-        (exceeds-called text.flags (frame_sizes program.functions) (s.regs sp - s.regs s0) (F.sp - F.before.regs s0) k lead.count
+        (subst (λ es. Exceeds text.flags (frame_sizes program) (s.regs sp - s.regs s0) es s input) (sym (events-active k (then_on a give)))
+        (exceeds-called text.flags (frame_sizes program) (s.regs sp - s.regs s0) (F.sp - F.before.regs s0) k lead.count
         (events (then_on a give)) s put.state input (lead.reaches input) space
         (all-events a h)))
       where
-        all-events : (a : Answer linear.State) → Exceeds text.flags (frame_sizes program.functions) (F.sp - F.before.regs s0) (events a) put.state input
-            → Exceeds text.flags (frame_sizes program.functions) (F.sp - F.before.regs s0) (events (then_on a give)) put.state input
+        all-events : (a : Answer linear.State) → Exceeds text.flags (frame_sizes program) (F.sp - F.before.regs s0) (events a) put.state input
+            → Exceeds text.flags (frame_sizes program) (F.sp - F.before.regs s0) (events (then_on a give)) put.state input
         all-events (Returned q o) h =
-            subst (λ es. Exceeds text.flags (frame_sizes program.functions) (F.sp - F.before.regs s0) es put.state input) (sym (events-before o (give q)))
-            (exceeds-more text.flags (frame_sizes program.functions) (F.sp - F.before.regs s0) o [] put.state input h)
+            subst (λ es. Exceeds text.flags (frame_sizes program) (F.sp - F.before.regs s0) es put.state input) (sym (events-before o (give q)))
+            (exceeds-more text.flags (frame_sizes program) (F.sp - F.before.regs s0) o [] put.state input h)
         all-events (Cut o) h = h
         all-events (Exited o status) h = h
         all-events (Undefined o) h = h
@@ -341,38 +342,38 @@ module _ (program : Program) (can : ProgramCanRun program) (done : InstrIsDone) 
     (closed-keep : ClosedBlocksKeepLoads) where
   -- calls at the bound above
   step : (bound : ℕ) (meaning : ℕ → Call) → CallsRun program bound meaning
-      → CallsRun program (suc bound) (λ k vs m i. active k (placed_entered bound meaning program.global (slice_get (map placed program.functions) k) vs m i))
+      → CallsRun program (suc bound) (λ k vs m i. active k (placed_entered bound meaning program.global (slice_get (map (placed_by program) program.functions) k) vs m i))
   step bound meaning calls k vs m input bases back s is-called = by (slice_get program.functions k) refl
     where
       by : (found : Option LinearFunction) → slice_get program.functions k ≡ found
-          → CallOutcome program (suc bound) m bases back (active k (placed_entered bound meaning program.global (slice_get (map placed program.functions) k) vs m input))
+          → CallOutcome program (suc bound) m bases back (active k (placed_entered bound meaning program.global (slice_get (map (placed_by program) program.functions) k) vs m input))
           s input
       by None e =
           subst (λ x. CallOutcome program (suc bound) m bases back (active k (placed_entered bound meaning program.global x vs m input)) s input)
-          (sym (slice_get-map placed program.functions k ∙ ap (option_map placed) e)) (inr tt)
+          (sym (slice_get-map (placed_by program) program.functions k ∙ ap (option_map (placed_by program)) e)) (inr tt)
       by (Some f) e =
           subst (λ x. CallOutcome program (suc bound) m bases back (active k (placed_entered bound meaning program.global x vs m input)) s input)
-          (sym (slice_get-map placed program.functions k ∙ ap (option_map placed) e))
-          (elim (cases_lt (s.regs sp - s.regs s0) (frame_of f)) [
+          (sym (slice_get-map (placed_by program) program.functions k ∙ ap (option_map (placed_by program)) e))
+          (elim (cases_lt (s.regs sp - s.regs s0) (frame_of program.places f)) [
             | inl less ↦
                 inl
-                (subst (λ es. Exceeds program.text.flags (frame_sizes program.functions) (s.regs sp - s.regs s0) es s input)
-                (sym (events-active k (placed_entered bound meaning program.global (Some (placed f)) vs m input)))
-                (exceeds program can bound meaning calls done store-keeps clear-keeps new-keep closed-keep k (places_of f) f (can.functions k f e)
+                (subst (λ es. Exceeds program.text.flags (frame_sizes program) (s.regs sp - s.regs s0) es s input)
+                (sym (events-active k (placed_entered bound meaning program.global (Some (placed_by program f)) vs m input)))
+                (exceeds program can bound meaning calls done store-keeps clear-keeps new-keep closed-keep k (program.places f) f (can.functions k f e)
                 (size-is f e) vs m input bases back s is-called less
-                (events (placed_entered bound meaning program.global (Some (placed f)) vs m input))))
+                (events (placed_entered bound meaning program.global (Some (placed_by program f)) vs m input))))
             | inr enough ↦
-                function-runs program can bound meaning calls done store-keeps clear-keeps new-keep closed-keep k (places_of f) f (can.functions k f e)
+                function-runs program can bound meaning calls done store-keeps clear-keeps new-keep closed-keep k (program.places f) f (can.functions k f e)
                 (size-is f e) vs m input bases back s is-called enough
           ])
         where
-          size-is : (f : LinearFunction) → slice_get program.functions k ≡ Some f → frame_sizes program.functions k ≡ frame_of f
-          size-is f e = get_or_from_slice_get (map frame_of program.functions) k (frame_of f) 0 (slice_get-map frame_of program.functions k ∙ ap (option_map frame_of) e)
+          size-is : (f : LinearFunction) → slice_get program.functions k ≡ Some f → frame_sizes program k ≡ frame_of program.places f
+          size-is f e = get_or_from_slice_get (map (frame_of program.places) program.functions) k (frame_of program.places f) 0 (slice_get-map (frame_of program.places) program.functions k ∙ ap (option_map (frame_of program.places)) e)
 
-  calls-run : (bound : ℕ) → CallsRun program bound (placed_calls (map placed program.functions) program.global bound)
+  calls-run : (bound : ℕ) → CallsRun program bound (placed_calls (map (placed_by program) program.functions) program.global bound)
   calls-run zero = λ k vs m input bases back s is-called. inr
       (record { state = s; count = 0; rest = input; enough = omega arith; reaches = record { to = run-zero program.text.flags (running s) input } })
-  calls-run (suc bound) = step bound (placed_calls (map placed program.functions) program.global bound) (calls-run bound)
+  calls-run (suc bound) = step bound (placed_calls (map (placed_by program) program.functions) program.global bound) (calls-run bound)
 
 pub functions_run : InstrIsDone → StoreKeepsBlocks → ClearKeepsBlocks → NewBlocksKeepLoads → ClosedBlocksKeepLoads → FunctionsRun
 functions_run done store-keeps clear-keeps new-keep closed-keep program can bound = calls-run program can done store-keeps clear-keeps new-keep closed-keep bound

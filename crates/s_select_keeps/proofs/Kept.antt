@@ -38,7 +38,7 @@ module _ (program : Program) (near : ℕ → Answer (Given Value)) (s : State) (
   machine n = run program.text.flags n (running s) input
 
   abbrev Over : Answer (Given Value) → Type 0
-  Over a = Exceeds program.text.flags (frame_sizes program.functions) stack_size (events a) s input
+  Over a = Exceeds program.text.flags (frame_sizes program) stack_size (events a) s input
 
   -- a run and one that has ended: they are equal, or the first is running
   record IsBefore (n c : ℕ) : Type 0 where
@@ -135,7 +135,7 @@ module _ (program : Program) (near : ℕ → Answer (Given Value)) (s : State) (
   ends-in n x (Exited did status) (inr h) d e = inr (status, ends-as n h.count x (exit status) e (ap (λ r. r.hart) h.runs))
   ends-in n x (Undefined did) (inr h) d e = absurd (d tt)
 
-  is-kept : IsKept (Given Value) near (λ n. deepest (frame_sizes program.functions) (events (near n))) machine
+  is-kept : IsKept (Given Value) near (λ n. deepest (frame_sizes program) (events (near n))) machine
   is-kept = record {
     forward = λ n. forward n (near n) refl (outcome n) (defined n);
     back = λ n. back n (near n) refl (outcome n) (defined n);
@@ -148,7 +148,7 @@ module _ (program : Program) (near : ℕ → Answer (Given Value)) (s : State) (
       never pc why (inr h) = let e = h.1 in absurd cc
 
       deep : (n : ℕ) → (Over (near n) × (ended stack ≡ ended stack)) ⊎ ((status : ℕ) × (ended stack ≡ ended (exit status)))
-          → (m : ℕ) × (stack_size < deepest (frame_sizes program.functions) (events (near m)))
+          → (m : ℕ) × (stack_size < deepest (frame_sizes program) (events (near m)))
       deep n (inl h) = (n, h.0.more)
       deep n (inr h) = let e = h.1 in absurd cc
 

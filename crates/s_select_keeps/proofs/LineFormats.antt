@@ -1,5 +1,5 @@
 -- The instructions of the template of each line fit their formats.
-use Rattle.std.proofs.Common.{◌≡◌, ◌⊎◌, ℕ, suc, ◌+◌, ◌-◌, ◌*◌, ◌^◌, ◌<◌, ◌≤◌, nat_lt, cond, Bool, true, false, IsTrue, List, [], ◌∷◌, ◌++◌, length, slice_index, refl, sym, subst, arith, inl, inr, lit<}
+use Rattle.std.proofs.Common.{◌≡◌, ◌⊎◌, ℕ, suc, ◌+◌, ◌-◌, ◌*◌, ◌^◌, ◌<◌, ◌≤◌, ◌==◌, if◌then◌else◌, nat_lt, cond, Bool, true, false, IsTrue, List, [], ◌∷◌, ◌++◌, length, slice_index, refl, sym, subst, arith, inl, inr, lit<}
 use Rattle.std.proofs.lemmas.Bool.{leb-true, ltb-true, cases_lt}
 use Rattle.val_core.specs.declared.operation.Op2.TheVariants as op
 use Rattle.g_graph.specs.Plain.{PlainObject}
@@ -17,26 +17,26 @@ use Rattle.s_linear.specs.Lines.{enter, leave, done, branch_not_zero, branch_zer
 use Rattle.s_select.specs.Conditions.{has_few_arguments}
 use Rattle.s_select.specs.declared.location.Location.TheVariants.{Near, Far}
 use Rattle.s_select.specs.Operands.{location_of, load_immediate, get, put, in_of, load_in, store_out}
-use Rattle.s_select.specs.Templates.{words, place_of, take_frame, give_frame, put_params, get_arguments, binary_code, unary_code, load_instr, store_instr, with_two, with_one, with_none, move_code, clear_code, size_of, instr_items, branch_items}
+use Rattle.s_select.specs.Templates.{words, place_of, take_frame, give_frame, put_params, get_arguments, binary_code, unary_code, load_instr, store_instr, with_two, with_one, with_none, move_between, move_code, clear_code, size_of, instr_items, branch_items}
 use Rattle.s_select_keeps.specs.Formats.{WordsFit, IsInRange, NumbersFit, TemplatesFit}
 use Rattle.s_select_keeps.proofs.Formats.{words-fit, items-append, immediate-fits, IsInReach, get-fits, put-fits, load-fits, store-fits, in-fits, out-fits, binary-fits, unary-fits, place-fits, taken-fits, given-fits, two-fits, one-fits, none-fits, move-fits, load-width, store-width, clear-fits}
 use Rattle.s_select_keeps.proofs.Locations.{at-register, at-word}
 
 -- each place is within reach
-reach : (n : ℕ) → IsInReach (location_of n)
-reach n = by (cases_lt n 11)
+reach : (t n : ℕ) → t ≤ 4 → IsInReach (location_of t n)
+reach t n few = by (cases_lt n (11 + t))
   where
-    word : (test : Bool) → nat_lt (4 * (n - 11)) 2048 ≡ test → IsInReach (cond test (Near (4 * (n - 11))) (Far (4 * (n - 11))))
-    word true e = ltb-true (4 * (n - 11)) 2048 e
+    word : (test : Bool) → nat_lt (4 * (n - (11 + t))) 2048 ≡ test → IsInReach (cond test (Near (4 * (n - (11 + t)))) (Far (4 * (n - (11 + t)))))
+    word true e = ltb-true (4 * (n - (11 + t))) 2048 e
     word false e = tt
 
-    by : (n < 11) ⊎ (11 ≤ n) → IsInReach (location_of n)
-    by (inl low) = subst IsInReach (sym (at-register n low)) (place-fits n low)
-    by (inr high) = subst IsInReach (sym (at-word n high)) (word (nat_lt (4 * (n - 11)) 2048) refl)
+    by : (n < 11 + t) ⊎ (11 + t ≤ n) → IsInReach (location_of t n)
+    by (inl low) = subst IsInReach (sym (at-register t n low)) (place-fits n (omega (arith, low, few)))
+    by (inr high) = subst IsInReach (sym (at-word t n high)) (word (nat_lt (4 * (n - (11 + t))) 2048) refl)
 
 module _ (p : PlainPlaces) (os : List PlainObject) (range : IsInRange p os) where
   at : (x : ℕ) → IsInReach (place_of p x)
-  at x = reach (slice_index p.of x)
+  at x = reach p.temporaries (slice_index p.of x) range.temporaries
 
   arguments-fit : (r : ℕ) (xs : List ℕ) → r + length xs ≤ 32 → AllFit (get_arguments p r xs)
   arguments-fit r [] few = tt
@@ -93,7 +93,12 @@ module _ (p : PlainPlaces) (os : List PlainObject) (range : IsInRange p os) wher
   instr-fits (linear.equal_pointers t a b) word few =
       words-fit (with_two (place_of p t) (place_of p a) (place_of p b) (binary_code op.Eq))
       (two-fits (place_of p t) (place_of p a) (place_of p b) (binary_code op.Eq) (at t) (at a) (at b) (λ rd x y r u v. binary-fits op.Eq rd x y r u v))
-  instr-fits (linear.move t a) word few = words-fit (move_code (place_of p t) (place_of p a)) (move-fits (place_of p t) (place_of p a) (at t) (at a))
+  instr-fits (linear.move t a) word few =
+      words-fit (move_between p.temporaries (slice_index p.of t) (slice_index p.of a)) (by (slice_index p.of t == slice_index p.of a))
+    where
+      by : (same : Bool) → AllFit (if same then [] else move_code (place_of p t) (place_of p a))
+      by true = tt
+      by false = move-fits (place_of p t) (place_of p a) (at t) (at a)
   instr-fits (linear.call f t xs) word few =
       let less = leb-true (length xs) 8 few in
       items-append (words (get_arguments p a0 xs)) (Call f ∷ words (put (place_of p t) a0))

@@ -21,8 +21,9 @@ use Rattle.s_linear.specs.Frame.{PlainPlaces}
 use Rattle.s_linear.specs.Lines as lines
 use Rattle.s_linear.specs.Lines.{Line, branch_not_zero, branch_zero, branch_equal, label}
 use Rattle.s_linear.specs.Meaning as linear
+use Rattle.s_select.specs.declared.location.Location.{Location}
 use Rattle.s_select.specs.Operands.{location_of, load_immediate, in_of, load_in}
-use Rattle.s_select.specs.Templates.{words, line_items, items_of}
+use Rattle.s_select.specs.Templates.{words, place_of, line_items, items_of}
 use Rattle.s_select_keeps.specs.Codes.{LinesStand}
 use Rattle.s_select_keeps.specs.Relation.{Frame, HasWords, Represents}
 use Rattle.s_select_keeps.specs.Standing.{ItemsStand}
@@ -30,6 +31,7 @@ use Rattle.s_select_keeps.specs.Steps.{Arrives}
 use Rattle.s_select_keeps.specs.Table.{place_at}
 use Rattle.s_select_keeps.proofs.Branches.{offset_leads, branch_not_zero_is_done, branch_zero_is_done, branch_equal_is_done}
 use Rattle.s_select_keeps.proofs.Items.{items_are_cut, words_stand}
+use Rattle.s_select_keeps.proofs.Locations.{HasPlaceIn, locations-same}
 use Rattle.s_select_keeps.proofs.Table.{code-joined}
 
 module _ (text : Text) (addresses : Addresses) (labels : ℕ → Option ℕ) where
@@ -74,30 +76,38 @@ module _ (text : Text) (addresses : Addresses) (labels : ℕ → Option ℕ) whe
           ap (λ n. (n + distance) % 2 ^ 32) from ∙ ap (λ n. (m + offset_to m n) % 2 ^ 32) to ∙ offset_leads m target (omega (arith, end, low)) small,
         )
 
-    module _ (f : Frame) (has : HasWords text f) (q : linear.State) (s : State) (x w b l target : ℕ) (rep : Represents text f q s) (within : place_at p x < f.places)
+    module _ (f : Frame) (has : HasWords text f) (q : linear.State) (s : State) (x w b l target : ℕ) (rep : Represents text f q s) (within : HasPlaceIn f p x)
         (is : q.names (place_at p x) ≡ Num w) (low : b < 2 ^ 32) (there : labels l ≡ Some target) (small : target < 2 ^ 32) where
+      -- code at the place of the predicate, which is code at that of the frame
+      stands-at : (e : ℕ) (code : Location → List isa.Instr) → CodeStands text s.pc (code (place_of p x)) e
+          → CodeStands text s.pc (code (location_of f.temporaries (place_at p x))) e
+      stands-at e code h = subst (λ at. CodeStands text s.pc (code (at (place_at p x))) e) (locations-same p f within.0) h
+
       pub branches-not-zero : ItemsStand text addresses labels s.pc (line_items p os (branch_not_zero x l)) b → Arrives text f (if w == 0 then b else target) q s
       branches-not-zero h =
-          let place = location_of (place_at p x) in
+          let place = place_of p x in
           let c = branch-code s.pc b l target (load_in t0 place) (Beq (in_of place t0) x0 8) h there low small in
-          branch_not_zero_is_done text f q s has rep (place_at p x) w c.0 target b within is c.1 low c.2
+          branch_not_zero_is_done text f q s has rep (place_at p x) w c.0 target b within.1 is
+          (stands-at b (λ l. load_in t0 l ++ Beq (in_of l t0) x0 8 ∷ Jal x0 c.0 ∷ []) c.1) low c.2
 
       pub branches-zero : ItemsStand text addresses labels s.pc (line_items p os (branch_zero x l)) b → Arrives text f (if w == 0 then target else b) q s
       branches-zero h =
-          let place = location_of (place_at p x) in
+          let place = place_of p x in
           let c = branch-code s.pc b l target (load_in t0 place) (Bne (in_of place t0) x0 8) h there low small in
-          branch_zero_is_done text f q s has rep (place_at p x) w c.0 target b within is c.1 low c.2
+          branch_zero_is_done text f q s has rep (place_at p x) w c.0 target b within.1 is
+          (stands-at b (λ l. load_in t0 l ++ Bne (in_of l t0) x0 8 ∷ Jal x0 c.0 ∷ []) c.1) low c.2
 
       pub branches-equal : (number : ℕ) → number < 2 ^ 32 → ItemsStand text addresses labels s.pc (line_items p os (branch_equal x number l)) b
           → Arrives text f (if w == number then target else b) q s
       branches-equal number fits h =
-          let place = location_of (place_at p x) in
+          let place = place_of p x in
           let code = load_in t0 place ++ load_immediate t1 number in
           let last = Bne (in_of place t0) t1 8 in
           let whole = subst (λ k. ItemsStand text addresses labels s.pc (words k ++ Jump l ∷ []) b)
           (sym (append_assoc (load_in t0 place) (load_immediate t1 number) (last ∷ []))) h in
           let c = branch-code s.pc b l target code last whole there low small in
-          branch_equal_is_done text f q s has rep (place_at p x) w number c.0 target b within is fits c.1 low c.2
+          branch_equal_is_done text f q s has rep (place_at p x) w number c.0 target b within.1 is fits
+          (stands-at b (λ l. load_in t0 l ++ load_immediate t1 number ++ Bne (in_of l t0) t1 8 ∷ Jal x0 c.0 ∷ []) c.1) low c.2
 
     -- a jump is one instruction
     pub jumps-once : (f : Frame) (q : linear.State) (s : State) (b l target : ℕ) (input : List ℕ) → Represents text f q s

@@ -16,8 +16,8 @@ use Rattle.rv_machine.specs.Standing.{HasText}
 use Rattle.rv_machine.proofs.lemmas.RunLaws.{run_goes_on, reaches_onwards}
 use Rattle.rv_machine.proofs.lemmas.Standing.{text_stays}
 use Rattle.s_linear.specs.Meaning.{finished}
-use Rattle.a_place.specs.Placed.{placed, placed_calls}
-use Rattle.s_select_keeps.specs.Functions.{Program, ProgramCanRun, frame_sizes, HasBlocks, IsCalled, ComesBack, CallOutcome, FunctionsRun}
+use Rattle.a_place.specs.Placed.{placed_calls}
+use Rattle.s_select_keeps.specs.Functions.{Program, ProgramCanRun, placed_by, frame_sizes, HasBlocks, IsCalled, ComesBack, CallOutcome, FunctionsRun}
 use Rattle.s_select_keeps.specs.Mains.{StartOutcome, HasStart, MainRuns}
 use Rattle.s_select_keeps.specs.Relation.{Bases, Shows, ShowsMemory}
 use Rattle.s_select_keeps.specs.Starts.{main_returns, Started}
@@ -89,8 +89,8 @@ module _ (functions_run : FunctionsRun) (program : Program) (can : ProgramCanRun
       subst (λ a. StartOutcome program bound a s input) (sym (before-is o (finished g)))
       (subst (λ v. StartOutcome program bound (added o (on_number v (λ n. Exited [] (n % 256)))) s input) (sym is) (inr tt))
 
-  exceeded : (es : List Event) → Exceeds program.text.flags (frame_sizes program.functions) (started.state.regs sp - started.state.regs s0) es started.state input
-      → Exceeds program.text.flags (frame_sizes program.functions) stack_size es s input
+  exceeded : (es : List Event) → Exceeds program.text.flags (frame_sizes program) (started.state.regs sp - started.state.regs s0) es started.state input
+      → Exceeds program.text.flags (frame_sizes program) stack_size es s input
   exceeded es h = record {
     count = started.steps.count + h.count;
     written = h.written;
@@ -105,8 +105,8 @@ module _ (functions_run : FunctionsRun) (program : Program) (can : ProgramCanRun
       → StartOutcome program bound (then_on a finished) s input
   finish (Returned g o) (inl h) =
       inl
-      (subst (λ es. Exceeds program.text.flags (frame_sizes program.functions) stack_size es s input) (sym (events-before o (finished g)))
-      (exceeds-more program.text.flags (frame_sizes program.functions) stack_size o (events (finished g)) s input (exceeded o h)))
+      (subst (λ es. Exceeds program.text.flags (frame_sizes program) stack_size es s input) (sym (events-before o (finished g)))
+      (exceeds-more program.text.flags (frame_sizes program) stack_size o (events (finished g)) s input (exceeded o h)))
   finish (Cut o) (inl h) = inl (exceeded o h)
   finish (Exited o status) (inl h) = inl (exceeded o h)
   finish (Undefined o) (inl h) = inl (exceeded o h)
@@ -133,6 +133,6 @@ module _ (functions_run : FunctionsRun) (program : Program) (can : ProgramCanRun
 
 pub main_runs : FunctionsRun → MainRuns
 main_runs functions_run program main stack e bound blocks bases input s can start =
-    finish functions_run program can main stack e bound blocks bases input s start (placed_calls (map placed program.functions) program.global bound main [] blocks input)
+    finish functions_run program can main stack e bound blocks bases input s start (placed_calls (map (placed_by program) program.functions) program.global bound main [] blocks input)
     (functions_run program can bound main [] blocks input bases main_returns (started functions_run program can main stack e bound blocks bases input s start).state
     (is-called functions_run program can main stack e bound blocks bases input s start))

@@ -61,8 +61,8 @@ load-acts-at width (inr (inr e)) = subst LoadActs (sym e) load-4
 
 pub load_is_done : LoadIsDone
 load_is_done text f q s words rep width t a v below within loaded b there low =
-    let l = location_of t in
-    let la = location_of a in
+    let l = location_of f.temporaries t in
+    let la = location_of f.temporaries a in
     let fits = location-fits f t below in
     let fitsa = location-fits f a within in
     let source = address-there width (q.names a) q.memory v loaded in
@@ -144,8 +144,8 @@ store-acts-at width (inr (inr e)) = subst StoreActs (sym e) store-4
 
 pub store_is_done : LoadAfterStore → LoadElsewhere → StoreKeepsBlocks → StoreIsDone
 store_is_done after-store elsewhere keeps text f q s words rep width a v m ina inv stored b there low =
-    let la = location_of a in
-    let lv = location_of v in
+    let la = location_of f.temporaries a in
+    let lv = location_of f.temporaries v in
     let fitsa = location-fits f a ina in
     let fitsv = location-fits f v inv in
     let instr = store_instr width (in_of la t0) (in_of lv t1) in

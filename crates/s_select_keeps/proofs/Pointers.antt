@@ -142,7 +142,7 @@ module _ (flags : ℕ → ℕ) (bases : Bases) (m : Memory) (laid : AreLaidOut f
 pub equal_pointers_is_done : EqualPointersIsDone
 equal_pointers_is_done text f q s words rep t x y n below inx iny equal b there low =
     place-written text f words q s b t (Num n) rep below
-    (two-write text f words s b (location_of t) (location_of x) (location_of y) (Num n) (q.names x) (q.names y) (binary_code Eq) (computed2 Eq) rep.has_text rep.stack
+    (two-write text f words s b (location_of f.temporaries t) (location_of f.temporaries x) (location_of f.temporaries y) (Num n) (q.names x) (q.names y) (binary_code Eq) (computed2 Eq) rep.has_text rep.stack
     (location-fits f t below) (location-fits f x inx) (location-fits f y iny) there low (rep.places x inx) (rep.places y iny)
     (λ u m rd a c v w has code small ne nea nec is is'. binary-computes text Eq u m rd a c v w has code small ne nea nec is is')
     (λ v w p p'. pointers-shown text.flags f.bases q.memory rep.memory.laid (q.names x) (q.names y) v w n equal p p'))

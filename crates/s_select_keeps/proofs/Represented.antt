@@ -1,5 +1,5 @@
 -- A place that is written: the machine goes on standing for the state of linear code.
-use Rattle.std.proofs.Common.{◌≡◌, ◌≢◌, ◌⊎◌, ℕ, ◌+◌, ◌-◌, ◌*◌, ◌<◌, ◌≤◌, ◌==◌, false, refl, sym, ap, subst, ◌∙◌, arith, inl, inr, eqb-true}
+use Rattle.std.proofs.Common.{◌≡◌, ◌≢◌, ◌⊎◌, ℕ, ◌+◌, ◌<◌, ◌≤◌, ◌==◌, false, refl, sym, ap, subst, ◌∙◌, arith, inl, inr, eqb-true}
 use Rattle.std.proofs.lemmas.Bool.{cases_lt, cases_Bool, eqb-false, both_ways}
 use Rattle.val_core.specs.declared.values.Value.{Value}
 use Rattle.val_core.specs.Memory.{Memory}
@@ -13,11 +13,11 @@ use Rattle.s_select.specs.declared.location.Location.{Location}
 use Rattle.s_select.specs.declared.location.Location.TheVariants.{Register, Near, Far}
 use Rattle.s_select.specs.Operands.{place_register, location_of}
 use Rattle.rv_machine.specs.Standing.{Text, HasText}
-use Rattle.s_select_keeps.specs.Relation.{IsKept, SameWord, Shows, IsOutside, ShowsMemory, held, Frame, words_end, HasWords, Represents}
+use Rattle.s_select_keeps.specs.Relation.{IsKept, SameWord, Shows, IsOutside, ShowsMemory, held, Frame, IsPlaceOf, words_end, HasWords, Represents}
 use Rattle.s_select_keeps.specs.Steps.{Arrives}
 use Rattle.s_select_keeps.proofs.lemmas.Blocks.{memory-same}
 use Rattle.s_select_keeps.proofs.Stores.{SameBlocks, same-back, alike, live-same}
-use Rattle.s_select_keeps.proofs.Locations.{no-temporary, LocationFits, IsOtherRegister, place-above, register-is-place, location-fits, other-register, other-addresses, held-at-register, held-at-word, held-same, outside-words}
+use Rattle.s_select_keeps.proofs.Locations.{no-temporary, LocationFits, IsOtherRegister, place-above, register-is-place, saved-within, word-within, word_address, location-fits, other-register, other-addresses, held-at-register, held-at-word, held-same, outside-words}
 use Rattle.s_select_keeps.proofs.Operands.{Writes}
 
 module _ (text : Text) (f : Frame) (words : HasWords text f) where
@@ -33,13 +33,13 @@ module _ (text : Text) (f : Frame) (words : HasWords text f) where
             ]
       ]
 
-  pub place-represents : (q : linear.State) (s : machine.State) (b t : ℕ) (v : Value) → Represents text f q s → t < f.places → (w : Writes text f s b (location_of t) v)
+  pub place-represents : (q : linear.State) (s : machine.State) (b t : ℕ) (v : Value) → Represents text f q s → IsPlaceOf f t → (w : Writes text f s b (location_of f.temporaries t) v)
       → Represents text f (linear.set q t v) w.state
   place-represents q s b t v rep below w = record {
     stack = kept sp (inl refl) (high-register sp (omega arith)) ∙ rep.stack;
     base = kept s0 (inr (inl refl)) (high-register s0 (omega arith)) ∙ rep.base;
     places = place;
-    saved = λ p above low. subst (SameWord (f.before.regs (place_register p))) (sym (register p low (apart p above))) (rep.saved p above low);
+    saved = λ p above low. subst (SameWord (f.before.regs (place_register p))) (sym (register p (apart p above low))) (rep.saved p above low);
     above = λ a from out. w.memory a (outside-words f t a below (inr from)) ∙ rep.above a from out;
     memory =
         memory-same text.flags f.bases q.memory s.mem w.state.mem
@@ -49,46 +49,45 @@ module _ (text : Text) (f : Frame) (words : HasWords text f) where
         (out-of-words a (λ from to. both_ways (has_flag (text.flags a) to_write) fixed (words.writable a from to)))) ∙ rep.has_text a fixed;
   }
     where
-      kept : (r : ℕ) → IsKept r → IsOtherRegister (location_of t) r → w.state.regs r ≡ s.regs r
+      kept : (r : ℕ) → IsKept r → IsOtherRegister (location_of f.temporaries t) r → w.state.regs r ≡ s.regs r
       kept r side other = w.registers r (no-temporary r side) other
 
-      high-register : (r : ℕ) → r ≤ 8 → IsOtherRegister (location_of t) r
-      high-register r low = other (location_of t) (location-fits f t below)
+      high-register : (r : ℕ) → r ≤ 8 → IsOtherRegister (location_of f.temporaries t) r
+      high-register r low = other (location_of f.temporaries t) (location-fits f t below)
         where
           other : (l : Location) → LocationFits f l → IsOtherRegister l r
           other (Register n) fits = λ same. (let e : r ≡ n = same in let high = place-above n fits in omega (arith, e, high, low))
           other (Near o) fits = tt
           other (Far o) fits = tt
 
-      apart : (p : ℕ) → f.places ≤ p → p ≢ t
-      apart p above same = absurd (omega (arith, above, same, below))
+      apart : (p : ℕ) → f.count ≤ p → p < registers → p ≢ t
+      apart p above low same = let inside = saved-within f t below (omega (arith, same, low)) in absurd (omega (arith, above, same, inside))
 
-      register : (p : ℕ) → p < registers → p ≢ t → w.state.regs (place_register p) ≡ s.regs (place_register p)
-      register p low ne =
-          kept (place_register p) (inr (inr (register-is-place p low))) (other-register p t ne low)
+      register : (p : ℕ) → p ≢ t → w.state.regs (place_register p) ≡ s.regs (place_register p)
+      register p ne = kept (place_register p) (inr (inr (register-is-place p))) (other-register f.temporaries p t ne)
 
-      same-held : (p : ℕ) → p ≢ t → held f.sp w.state.regs w.state.mem (location_of p) ≡ held f.sp s.regs s.mem (location_of p)
+      same-held : (p : ℕ) → p ≢ t → held f.sp w.state.regs w.state.mem (location_of f.temporaries p) ≡ held f.sp s.regs s.mem (location_of f.temporaries p)
       same-held p ne =
-          elim (cases_lt p 11) [
+          elim (cases_lt p (11 + f.temporaries)) [
             | inl low ↦
-                held-at-register f p w.state.regs w.state.mem low ∙ register p low ne ∙ sym (held-at-register f p s.regs s.mem low)
+                held-at-register f p w.state.regs w.state.mem low ∙ register p ne ∙ sym (held-at-register f p s.regs s.mem low)
             | inr high ↦
                 held-at-word f p w.state.regs w.state.mem high
-                ∙ load-agrees s.mem w.state.mem (f.sp + 4 * (p - 11)) 4 (λ j under. w.memory (f.sp + 4 * (p - 11) + j) (other-addresses f p t j ne high under))
+                ∙ load-agrees s.mem w.state.mem (word_address f p) 4 (λ j under. w.memory (word_address f p + j) (other-addresses f p t j ne high under))
                 ∙ sym (held-at-word f p s.regs s.mem high)
           ]
 
-      place : (p : ℕ) → p < f.places → Shows f.bases (linear.written q.names t v p) (held f.sp w.state.regs w.state.mem (location_of p))
+      place : (p : ℕ) → IsPlaceOf f p → Shows f.bases (linear.written q.names t v p) (held f.sp w.state.regs w.state.mem (location_of f.temporaries p))
       place p within =
           elim (cases_Bool (p == t)) [
             | inl same ↦
                 let e : p ≡ t = eqb-true p t same in
-                rw same (subst (λ n. Shows f.bases v (held f.sp w.state.regs w.state.mem (location_of n))) (sym e) w.shows)
+                rw same (subst (λ n. Shows f.bases v (held f.sp w.state.regs w.state.mem (location_of f.temporaries n))) (sym e) w.shows)
             | inr other ↦
                 rw other (subst (Shows f.bases (q.names p)) (sym (same-held p (eqb-false p t other))) (rep.places p within))
           ]
 
-  pub place-written : (q : linear.State) (s : machine.State) (b t : ℕ) (v : Value) → Represents text f q s → t < f.places → Writes text f s b (location_of t) v
+  pub place-written : (q : linear.State) (s : machine.State) (b t : ℕ) (v : Value) → Represents text f q s → IsPlaceOf f t → Writes text f s b (location_of f.temporaries t) v
       → Arrives text f b (linear.set q t v) s
   place-written q s b t v rep below w = record { state = w.state; steps = w.steps; pc = w.pc; shows = place-represents q s b t v rep below w }
 
@@ -100,8 +99,8 @@ module _ (text : Text) (f : Frame) (words : HasWords text f) where
     base = regs s0 (inr (inl refl)) ∙ rep.base;
     places = λ p within.
         subst (Shows f.bases (q.names p))
-        (sym (held-same f (location_of p) (location-fits f p within) s.regs u.regs s.mem u.mem (λ r place. regs r (inr (inr place))) mem)) (rep.places p within);
-    saved = λ p above low. subst (SameWord (f.before.regs (place_register p))) (sym (regs (place_register p) (inr (inr (register-is-place p low)))))
+        (sym (held-same f (location_of f.temporaries p) (location-fits f p within) s.regs u.regs s.mem u.mem (λ r place. regs r (inr (inr place))) mem)) (rep.places p within);
+    saved = λ p above low. subst (SameWord (f.before.regs (place_register p))) (sym (regs (place_register p) (inr (inr (register-is-place p)))))
         (rep.saved p above low);
     above = λ n from out. ap (λ m. m n) mem ∙ rep.above n from out;
     memory = subst (λ m. ShowsMemory text.flags f.bases q.memory m) (sym mem) rep.memory;
@@ -117,7 +116,7 @@ module _ (text : Text) (f : Frame) (words : HasWords text f) where
     stack = regs sp (inl refl) ∙ rep.stack;
     base = regs s0 (inr (inl refl)) ∙ rep.base;
     places = λ p within. subst (Shows f.bases (q.names p)) (sym (same-held p within)) (rep.places p within);
-    saved = λ p above low. subst (SameWord (f.before.regs (place_register p))) (sym (regs (place_register p) (inr (inr (register-is-place p low)))))
+    saved = λ p above low. subst (SameWord (f.before.regs (place_register p))) (sym (regs (place_register p) (inr (inr (register-is-place p)))))
         (rep.saved p above low);
     above = λ a from out. elsewhere a (before a out) ∙ rep.above a from (before a out);
     memory = shows;
@@ -128,14 +127,14 @@ module _ (text : Text) (f : Frame) (words : HasWords text f) where
       before : (a : ℕ) → IsOutside f.bases m a → IsOutside f.bases q.memory a
       before a out live = out (live-same f.bases q.memory m (alike q.memory m same) a live)
 
-      same-held : (p : ℕ) → p < f.places → held f.sp u.regs u.mem (location_of p) ≡ held f.sp s.regs s.mem (location_of p)
+      same-held : (p : ℕ) → IsPlaceOf f p → held f.sp u.regs u.mem (location_of f.temporaries p) ≡ held f.sp s.regs s.mem (location_of f.temporaries p)
       same-held p within =
-          elim (cases_lt p 11) [
+          elim (cases_lt p (11 + f.temporaries)) [
             | inl low ↦
-                held-at-register f p u.regs u.mem low ∙ regs (place_register p) (inr (inr (register-is-place p low))) ∙ sym (held-at-register f p s.regs s.mem low)
+                held-at-register f p u.regs u.mem low ∙ regs (place_register p) (inr (inr (register-is-place p))) ∙ sym (held-at-register f p s.regs s.mem low)
             | inr high ↦
                 held-at-word f p u.regs u.mem high
-                ∙ load-agrees s.mem u.mem (f.sp + 4 * (p - 11)) 4
-                (λ j under. elsewhere (f.sp + 4 * (p - 11) + j) (rep.apart (f.sp + 4 * (p - 11) + j) (omega arith) (omega (arith, within, high, under))))
+                ∙ load-agrees s.mem u.mem (word_address f p) 4
+                (λ j under. elsewhere (word_address f p + j) (rep.apart (word_address f p + j) (omega arith) (let inside = word-within f p within high in omega (arith, inside, high, under))))
                 ∙ sym (held-at-word f p s.regs s.mem high)
           ]

@@ -18,7 +18,7 @@ use Rattle.s_select.specs.Templates.{give_frame}
 use Rattle.s_select_keeps.specs.Formats.{IsInRange}
 use Rattle.s_select_keeps.specs.Frames.{GivenBack, Taken}
 use Rattle.s_select_keeps.specs.Functions.{Program, ProgramCanRun, IsCalled}
-use Rattle.s_select_keeps.specs.Relation.{Bases, Shows, IsLive, IsPlaceRegister, SameWord, Frame, at_bases, Represents}
+use Rattle.s_select_keeps.specs.Relation.{Bases, Shows, IsLive, IsPlaceRegister, IsSavedRegister, SameWord, Frame, IsPlaceOf, at_bases, Represents}
 use Rattle.s_select_keeps.specs.Steps.{Steps}
 use Rattle.s_select_keeps.proofs.CallRows.{InFunction}
 use Rattle.s_select_keeps.proofs.Entries as entry
@@ -29,8 +29,8 @@ use Rattle.s_select_keeps.proofs.Operands.{get-done}
 use Rattle.s_select_keeps.proofs.Outcomes.{words-at}
 use Rattle.s_select_keeps.proofs.Registers.{Computes, steps-then, code-le}
 
--- each place register is that of a place
-place-of-register : (r : ℕ) → IsPlaceRegister r → (k : ℕ) × (k < registers) × (r ≡ place_register k)
+-- each saved register is that of a place
+place-of-register : (r : ℕ) → IsSavedRegister r → (k : ℕ) × (k < registers) × (r ≡ place_register k)
 place-of-register r (inl nine) = (0, omega arith, nine)
 place-of-register r (inr high) = (r - 17, (let below = high.1 in omega (arith, below)), by ((r - 17) == 0) refl)
   where
@@ -61,14 +61,14 @@ module _ (program : Program) (can : ProgramCanRun program) (p : PlainPlaces) (os
     pub pc : state.pc ≡ back
     pub stack : state.regs sp ≡ s.regs sp
     pub base : state.regs s0 ≡ s.regs s0
-    pub kept : (r : ℕ) → IsPlaceRegister r → SameWord (s.regs r) (state.regs r)
+    pub kept : (r : ℕ) → IsSavedRegister r → SameWord (s.regs r) (state.regs r)
     pub value : Shows more (q.names v) (state.regs a0)
     pub mem : state.mem ≡ u.mem
 
   module _ (q : linear.State) (more : Bases) (inv : InFunction program F p os
       (entry.local program can p os range leaves function vs m input bases back s called enough e taken) all more q) (v : ℕ)
-      (inside : v < p.count) (u : State) (rep : Represents program.text (at_bases F more) q u) (end : ℕ)
-      (there : CodeStands program.text u.pc (get a0 (location_of v) ++ give_frame size saved) end)
+      (inside : IsPlaceOf F v) (u : State) (rep : Represents program.text (at_bases F more) q u) (end : ℕ)
+      (there : CodeStands program.text u.pc (get a0 (location_of p.temporaries v) ++ give_frame size saved) end)
       (low : end < 2 ^ 32) where
     -- an address that lives now is one of before, or in an object
     pub live-now : (a : ℕ) → IsLive more q.memory a → IsLive bases m a ⊎ ((F.sp + 4 * words_of p.count ≤ a) × (a < s.regs sp - (4 + 4 * saved)))
@@ -90,13 +90,13 @@ module _ (program : Program) (can : ProgramCanRun program) (p : PlainPlaces) (os
     saved-word : (a : ℕ) → s.regs sp - (4 + 4 * saved) ≤ a → a + 4 ≤ s.regs sp → load_bytes u.mem a 4 ≡ load_bytes taken.state.mem a 4
     saved-word a from to = load-agrees taken.state.mem u.mem a 4 (λ j below. saves-kept (a + j) (omega (arith, from)) (omega (arith, to, below)))
 
-    cut : (b : ℕ) × CodeStands program.text u.pc (get a0 (location_of v)) b × CodeStands program.text b (give_frame size saved) end
-    cut = code_is_cut program.text u.pc end (get a0 (location_of v)) (give_frame size saved) there
+    cut : (b : ℕ) × CodeStands program.text u.pc (get a0 (location_of p.temporaries v)) b × CodeStands program.text b (give_frame size saved) end
+    cut = code_is_cut program.text u.pc end (get a0 (location_of p.temporaries v)) (give_frame size saved) there
 
     one : (x : ℕ) × Shows more (q.names v) x × Computes program.text u cut.0 a0 x
     one =
         get-done program.text (at_bases F more) (words-at program.text F more
-        (entry.has-words program can p os range leaves function vs m input bases back s called enough e taken)) u cut.0 a0 (location_of v)
+        (entry.has-words program can p os range leaves function vs m input bases back s called enough e taken)) u cut.0 a0 (location_of p.temporaries v)
         (q.names v) rep.has_text rep.stack (location-fits (at_bases F more) v inside) cut.1 (let le = code-le program.text cut.0 (give_frame size saved) end cut.2 in
         omega (arith, le, low)) (omega arith)
         (rep.places v inside)
@@ -147,11 +147,11 @@ module _ (program : Program) (can : ProgramCanRun program) (p : PlainPlaces) (os
           ∙ (let holds = (entry.is-size p os range).holds in saved-word (s.regs sp - (8 + 4 * k)) (omega (arith, below)) (omega (arith, below, holds, enough)))
           ∙ taken.saves k below)
       | inr past ↦
-          let high = place-above (place_register k) (register-is-place k few) in
+          let high = place-above (place_register k) (register-is-place k) in
           let others : given.state.regs (place_register k) ≡ u.regs (place_register k) =
           given.others (place_register k) (omega (arith, high)) (omega (arith, high)) (omega (arith, high)) (omega (arith, high)) (omega (arith, high))
           (λ j under. registers-apart k j (omega (arith, past, under)))
-          ∙ one.2.others (place_register k) (not-a0 (register-is-place k few)) (omega (arith, high)) in
+          ∙ one.2.others (place_register k) (not-a0 (register-is-place k)) (omega (arith, high)) in
           let was : taken.state.regs (place_register k) ≡ s.regs (place_register k) =
           taken.others (place_register k) (omega (arith, high)) (omega (arith, high)) (omega (arith, high)) (omega (arith, high)) in
           subst (λ x. SameWord x (given.state.regs (place_register k))) was
@@ -160,7 +160,7 @@ module _ (program : Program) (can : ProgramCanRun program) (p : PlainPlaces) (os
       where
         not-a0 : IsPlaceRegister (place_register k) → place_register k ≢ 10
         not-a0 (inl nine) same = omega (arith, nine, same)
-        not-a0 (inr high) same = let above = high.0 in omega (arith, above, same)
+        not-a0 (inr high) same = omega (arith, high, same)
 
     pub ends : Ended q more v u
     ends = record {
@@ -180,11 +180,11 @@ module _ (program : Program) (can : ProgramCanRun program) (p : PlainPlaces) (os
     }
       where
         never : (r : ℕ) → r ≤ 8 → (k : ℕ) → k < 11 → r ≢ place_register k
-        never r less k few same = let high = place-above (place_register k) (register-is-place k few) in omega (arith, less, high, same)
+        never r less k few same = let high = place-above (place_register k) (register-is-place k) in omega (arith, less, high, same)
 
         ten : (k : ℕ) → k < 11 → 10 ≢ place_register k
-        ten k few same = by (register-is-place k few)
+        ten k few same = by (register-is-place k)
           where
             by : IsPlaceRegister (place_register k) → ⊥
             by (inl nine) = omega (arith, nine, same)
-            by (inr high) = let above = high.0 in omega (arith, above, same)
+            by (inr high) = omega (arith, high, same)

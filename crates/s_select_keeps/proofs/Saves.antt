@@ -81,7 +81,7 @@ module _ (text : Text) (top : ℕ) (even : top % 4 ≡ 0) (low : top < 2 ^ 32) w
       writes j below = writable (place + j) (omega (arith, within)) (omega (arith, within, below))
 
       not-zero : place_register n ≢ 0
-      not-zero same = let above = place-above (place_register n) (register-is-place n few) in absurd (omega (arith, above, same))
+      not-zero same = let above = place-above (place_register n) (register-is-place n) in absurd (omega (arith, above, same))
 
       step : Steps text.flags u last
       step =
@@ -162,7 +162,7 @@ module _ (text : Text) (top : ℕ) (even : top % 4 ≡ 0) (low : top < 2 ^ 32) w
       last = record { pc = after u.pc; regs = set_register u.regs (place_register n) x; mem = u.mem }
 
       above-temporaries : (k : ℕ) → k ≤ n → 8 < place_register k
-      above-temporaries k within = place-above (place_register k) (register-is-place k (omega (arith, within, few)))
+      above-temporaries k within = place-above (place_register k) (register-is-place k)
 
       not-zero : place_register n ≢ 0
       not-zero same = let above = above-temporaries n (omega arith) in absurd (omega (arith, above, same))

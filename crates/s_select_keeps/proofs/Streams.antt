@@ -1,5 +1,5 @@
 -- The templates of output and input do what the instructions do, by way of the stubs.
-use Rattle.std.proofs.Common.{◌≡◌, ◌≢◌, ℕ, ◌+◌, ◌-◌, ◌*◌, ◌%◌, ◌^◌, ◌<◌, ◌==◌, false, List, [], ◌∷◌, refl, sym, ap, subst, ◌∙◌, arith, inl, inr}
+use Rattle.std.proofs.Common.{◌≡◌, ◌≢◌, ℕ, ◌+◌, ◌-◌, ◌%◌, ◌^◌, ◌<◌, ◌==◌, false, List, [], ◌∷◌, refl, sym, ap, subst, ◌∙◌, arith, inl, inr}
 use Rattle.std.specs.Prelude.{All}
 use Rattle.std.proofs.lemmas.Bool.{cases_lt, ne_eqb}
 use Rattle.val_core.specs.declared.values.Value.TheVariants.{Num}
@@ -19,14 +19,14 @@ use Rattle.s_linear.specs.Meaning.{got}
 use Rattle.s_select.specs.Operands as select
 use Rattle.s_select.specs.Operands.{place_register, location_of, get}
 use Rattle.s_select_keeps.specs.Calls.{Called}
-use Rattle.s_select_keeps.specs.Relation.{IsKept, SameWord, IsLive, Shows, held, Frame, HasWords, Represents}
+use Rattle.s_select_keeps.specs.Relation.{IsKept, SameWord, IsLive, Shows, held, Frame, IsPlaceOf, HasWords, Represents}
 use Rattle.s_select_keeps.specs.Steps.{Steps, Comes, Follows}
 use Rattle.s_select_keeps.specs.Streams.{IsBuffer, PutIsDone, GetIsDone}
 use Rattle.s_select_keeps.specs.Stubs.{FromStub, StubIsCalled}
 use Rattle.s_select_keeps.proofs.lemmas.Blocks.{memory-same}
 use Rattle.s_select_keeps.proofs.Calls.{call_leads}
 use Rattle.s_select_keeps.proofs.GetStub.{get_stub_reads}
-use Rattle.s_select_keeps.proofs.Locations.{kept-apart, kept-argument, kept-return, register-is-place, location-fits, held-at-register, held-at-word}
+use Rattle.s_select_keeps.proofs.Locations.{kept-apart, kept-argument, kept-return, register-is-place, word_address, location-fits, held-at-register, held-at-word}
 use Rattle.s_select_keeps.proofs.Operands.{get-done, put-done}
 use Rattle.s_select_keeps.proofs.PutStub.{put_stub_writes, stored-elsewhere}
 use Rattle.s_select_keeps.proofs.Registers.{Computes, steps-then, code-le}
@@ -40,7 +40,7 @@ module _ (text : Text) (f : Frame) (words : HasWords text f) (q : linear.State) 
     stack = regs sp (inl refl) ∙ rep.stack;
     base = regs s0 (inr (inl refl)) ∙ rep.base;
     places = λ p within. subst (Shows f.bases (q.names p)) (sym (same-held p within)) (rep.places p within);
-    saved = λ p above low. subst (SameWord (f.before.regs (place_register p))) (sym (regs (place_register p) (inr (inr (register-is-place p low)))))
+    saved = λ p above low. subst (SameWord (f.before.regs (place_register p))) (sym (regs (place_register p) (inr (inr (register-is-place p)))))
         (rep.saved p above low);
     above = λ a from out. mem a (λ e. let below = is.below in omega (arith, below, from, e)) ∙ rep.above a from out;
     memory =
@@ -49,15 +49,15 @@ module _ (text : Text) (f : Frame) (words : HasWords text f) (q : linear.State) 
     has_text = text-keeps text s.mem u.mem buffer rep.has_text is.writable mem;
   }
     where
-      same-held : (p : ℕ) → p < f.places → held f.sp u.regs u.mem (location_of p) ≡ held f.sp s.regs s.mem (location_of p)
+      same-held : (p : ℕ) → IsPlaceOf f p → held f.sp u.regs u.mem (location_of f.temporaries p) ≡ held f.sp s.regs s.mem (location_of f.temporaries p)
       same-held p within =
-          elim (cases_lt p 11) [
+          elim (cases_lt p (11 + f.temporaries)) [
             | inl low ↦
-                held-at-register f p u.regs u.mem low ∙ regs (place_register p) (inr (inr (register-is-place p low))) ∙ sym (held-at-register f p s.regs s.mem low)
+                held-at-register f p u.regs u.mem low ∙ regs (place_register p) (inr (inr (register-is-place p))) ∙ sym (held-at-register f p s.regs s.mem low)
             | inr high ↦
                 held-at-word f p u.regs u.mem high
-                ∙ load-agrees s.mem u.mem (f.sp + 4 * (p - 11)) 4
-                (λ j under. mem (f.sp + 4 * (p - 11) + j) (λ e. let below = is.below in omega (arith, below, e)))
+                ∙ load-agrees s.mem u.mem (word_address f p) 4
+                (λ j under. mem (word_address f p + j) (λ e. let below = is.below in omega (arith, below, e)))
                 ∙ sym (held-at-word f p s.regs s.mem high)
           ]
 
@@ -94,7 +94,7 @@ put_is_done text f q s words rep a w buffer m b below is buf stubs there next lo
     middle = let le = code-le text m (call (offset_to m layout.put_at)) b next in omega (arith, le, low)
 
     value : (x : ℕ) × Shows f.bases (q.names a) x × Computes text s m a0 x
-    value = get-done text f words s m a0 (location_of a) (q.names a) rep.has_text rep.stack (location-fits f a below) there middle (omega arith) (rep.places a below)
+    value = get-done text f words s m a0 (location_of f.temporaries a) (q.names a) rep.has_text rep.stack (location-fits f a below) there middle (omega arith) (rep.places a below)
 
     one : Computes text s m a0 value.0
     one = value.2
@@ -133,12 +133,12 @@ put_is_done text f q s words rep a w buffer m b below is buf stubs there next lo
 -- ---- input
 
 -- the value that the stub gives is put into its place
-placed-after : (text : Text) (f : Frame) (q q' : linear.State) (s u : machine.State) (t x b : ℕ) (input written : List ℕ) → HasWords text f → t < f.places
+placed-after : (text : Text) (f : Frame) (q q' : linear.State) (s u : machine.State) (t x b : ℕ) (input written : List ℕ) → HasWords text f → IsPlaceOf f t
     → Represents text f q' u
-    → CodeStands text u.pc (select.put (location_of t) a0) b → b < 2 ^ 32 → u.regs a0 ≡ x → x < 2 ^ 32 → (count : ℕ) → (did : List Event) → output did ≡ []
+    → CodeStands text u.pc (select.put (location_of f.temporaries t) a0) b → b < 2 ^ 32 → u.regs a0 ≡ x → x < 2 ^ 32 → (count : ℕ) → (did : List Event) → output did ≡ []
     → Reaches text.flags count s input [] u q'.input → Comes text f b (linear.set q' t (Num x)) did s input
 placed-after text f q q' s u t x b input written words below rep code low is small count did none reaches =
-    let w = put-done text f words u b a0 x (location_of t) (Num x) rep.has_text rep.stack (location-fits f t below) code low (omega arith)
+    let w = put-done text f words u b a0 x (location_of f.temporaries t) (Num x) rep.has_text rep.stack (location-fits f t below) code low (omega arith)
     (omega arith) is (refl, small) in
     let last = place-written text f words q' u b t (Num x) rep below w in
     record {
@@ -169,7 +169,7 @@ pub get_is_done : GetIsDone
 get_is_done text f q s words rep t buffer m b least below bytes buf stubs there next low = by q.input refl bytes
   where
     middle : m < 2 ^ 32
-    middle = let le = code-le text m (select.put (location_of t) a0) b next in omega (arith, le, low)
+    middle = let le = code-le text m (select.put (location_of f.temporaries t) a0) b next in omega (arith, le, low)
 
     called : Called text s get_at m
     called = call_leads text s get_at m rep.has_text there middle (omega arith) refl
@@ -184,8 +184,8 @@ get_is_done text f q s words rep t buffer m b least below bytes buf stubs there 
     kept u same r side = same r side ∙ call-kept text f words q buffer buf s get_at m called r side
 
     -- the code of the put stands where the stub comes back to
-    put-code : (a : ℕ) → a ≡ m → CodeStands text a (select.put (location_of t) a0) b
-    put-code a e = subst (λ n. CodeStands text n (select.put (location_of t) a0) b) (sym e) next
+    put-code : (a : ℕ) → a ≡ m → CodeStands text a (select.put (location_of f.temporaries t) a0) b
+    put-code a e = subst (λ n. CodeStands text n (select.put (location_of f.temporaries t) a0) b) (sym e) next
 
     by : (input : List ℕ) → q.input ≡ input → All (λ byte. byte < 2 ^ 8) input → Follows text f b least (got q t input) s input
     by [] e all =

@@ -15,7 +15,7 @@ use Rattle.s_select.specs.Templates.{get_arguments}
 use Rattle.s_select_keeps.specs.Relation.{Shows, Frame, Represents}
 use Rattle.s_select_keeps.specs.Rows.{InBody}
 use Rattle.s_select_keeps.specs.Steps.{Steps, Arrives}
-use Rattle.s_select_keeps.specs.Table.{place_at}
+use Rattle.s_select_keeps.specs.Table.{place_at, HasPlaces}
 
 -- Up to address b the values of these names are in the registers from one on. The machine goes on standing for the state.
 pub record Loaded (text : Text) (f : Frame) (p : PlainPlaces) (b register : ℕ) (names : List ℕ) (q : linear.State) (s : machine.State) : Type 0 where
@@ -27,12 +27,12 @@ pub record Loaded (text : Text) (f : Frame) (p : PlainPlaces) (b register : ℕ)
 
 abbrev pub ArgumentsAreLoaded : Type 0
 ArgumentsAreLoaded =
-    InBody (λ text f q s. (p : PlainPlaces) (names : List ℕ) (b : ℕ) → f.places ≡ p.count → IsTrue (all_of (has_place p) names) → length names ≤ 8
+    InBody (λ text f q s. (p : PlainPlaces) (names : List ℕ) (b : ℕ) → HasPlaces f p → IsTrue (all_of (has_place p) names) → length names ≤ 8
     → CodeStands text s.pc (get_arguments p a0 names) b → b < 2 ^ 32 → Loaded text f p b a0 names q s)
 
 -- The values in the argument registers are put into the places of parameters, one after the other.
 abbrev pub ParamsArePut : Type 0
 ParamsArePut =
-    InBody (λ text f q s. (p : PlainPlaces) (names : List ℕ) (vs : List Value) (b : ℕ) → f.places ≡ p.count → IsTrue (all_of (has_place p) names) → length names ≤ 8
+    InBody (λ text f q s. (p : PlainPlaces) (names : List ℕ) (vs : List Value) (b : ℕ) → HasPlaces f p → IsTrue (all_of (has_place p) names) → length names ≤ 8
     → ((k : ℕ) → k < length names → Shows f.bases (first_names vs k) (s.regs (a0 + k))) → CodeStands text s.pc (select.put_params p a0 names) b → b < 2 ^ 32
     → Arrives text f b (record { names = put_params (map (place_at p) names) 0 vs q.names; memory = q.memory; input = q.input }) s)

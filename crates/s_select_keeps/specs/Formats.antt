@@ -1,5 +1,5 @@
 -- That the instructions of items fit their formats.
-use Rattle.std.specs.Prelude.{ℕ, ◌+◌, ◌^◌, ◌<◌, IsTrue, List, [], ◌∷◌, Option}
+use Rattle.std.specs.Prelude.{ℕ, ◌+◌, ◌^◌, ◌<◌, ◌≤◌, IsTrue, List, [], ◌∷◌, Option}
 use Rattle.g_graph.specs.Plain.{PlainObject, PlainDelta}
 use Rattle.rv_isa.specs.Words.{FitsFormat}
 use Rattle.rv_machine.specs.Standing.{AllFit}
@@ -21,8 +21,9 @@ WordsFit (Word i ∷ is) = FitsFormat i × WordsFit is
 WordsFit (Address r k ∷ is) = (r < 32) × WordsFit is
 WordsFit (_ ∷ is) = WordsFit is
 
--- the size of the frame is a word, and so is each offset and size of an object in it
+-- At most four places are registers that a call loses. The size of the frame is a word, and so is each offset and size of an object in it.
 pub record IsInRange (p : PlainPlaces) (os : List PlainObject) : Type 0 where
+  pub temporaries : p.temporaries ≤ 4
   pub frame : frame_size p.count os < 2 ^ 32
   pub objects : (k : ℕ) → object_at p.count os k < 2 ^ 32
   pub sizes : (k : ℕ) → size_of os k + 3 < 2 ^ 32

@@ -18,34 +18,38 @@ use Rattle.s_linear.specs.Lines.{done, instr_names, lines}
 use Rattle.val_core.specs.Numbers.{numbers_from}
 use Rattle.s_linear.specs.Meaning.{Call, first_names}
 use Rattle.s_linear.specs.Operands.{has_its_object, has_its_global}
-use Rattle.a_place.specs.Places.{places}
-use Rattle.a_place.specs.Placed.{placed, placed_calls}
+use Rattle.a_place.specs.Placed.{PlacedFunction, placed_at, placed_calls}
 use Rattle.s_select.specs.Conditions.{has_place, has_few_arguments}
 use Rattle.s_select_keeps.specs.Codes.{CodeFits, LinesStand}
 use Rattle.s_select_keeps.specs.Formats.{IsInRange, NumbersFit}
 use Rattle.s_select_keeps.specs.Frames.{HasStack}
-use Rattle.s_select_keeps.specs.Relation.{Bases, Extends, Shows, LivesAlike, IsOutside, ShowsMemory, IsPlaceRegister, SameWord}
+use Rattle.s_select_keeps.specs.Relation.{Bases, Extends, Shows, LivesAlike, IsOutside, ShowsMemory, IsSavedRegister, SameWord}
 use Rattle.s_select_keeps.specs.Steps.{Ends, GoesOn, Exceeds}
 use Rattle.s_select_keeps.specs.Streams.{StubsStand}
 
 -- ---- programs
 
--- A program in memory: its text, where its parts stand, its functions, and the values that name its globals.
+-- the places of the names of each function
+abbrev pub Layout : Type 0
+Layout = LinearFunction → PlainPlaces
+
+-- A program in memory: its text, where its parts stand, its functions and their places, and the values that name its globals.
 pub record Program : Type 0 where
   pub text : Text
   pub addresses : Addresses
   pub functions : List LinearFunction
+  pub places : Layout
   pub global : ℕ → Value
 
-abbrev pub places_of : LinearFunction → PlainPlaces
-places_of f = places (lines f)
+abbrev pub placed_by : Program → LinearFunction → PlacedFunction
+placed_by program f = placed_at (program.places f) f
 
-abbrev pub frame_of : LinearFunction → ℕ
-frame_of f = frame_size (places_of f).count f.objects
+abbrev pub frame_of : Layout → LinearFunction → ℕ
+frame_of places f = frame_size (places f).count f.objects
 
 -- the bytes of the frame of each function, by its number
-abbrev pub frame_sizes : List LinearFunction → (function : ℕ) → ℕ
-frame_sizes fs k = slice_index (map frame_of fs) k
+abbrev pub frame_sizes : Program → (function : ℕ) → ℕ
+frame_sizes program k = slice_index (map (frame_of program.places) program.functions) k
 
 -- Names have places, objects and globals that are named are there, a constant is a word, and arguments are few.
 abbrev pub InstrCanRun : PlainPlaces → (objects globals : ℕ) → Instr → Type 0
@@ -74,7 +78,7 @@ pub record FunctionStands (program : Program) (at : ℕ) (p : PlainPlaces) (f : 
 -- Each function stands at its address, which is even, the stubs stand, and their buffer may be read and written.
 pub record ProgramCanRun (program : Program) : Type 0 where
   pub functions : (k : ℕ) (f : LinearFunction) → slice_get program.functions k ≡ Some f
-      → FunctionStands program (slice_index program.addresses.functions k) (places_of f) f
+      → FunctionStands program (slice_index program.addresses.functions k) (program.places f) f
   pub entries : (k : ℕ) → (slice_index program.addresses.functions k < 2 ^ 32) × (slice_index program.addresses.functions k % 2 ≡ 0)
   pub stubs : StubsStand program.text program.addresses.data_at
   pub readable : has_flag (program.text.flags program.addresses.data_at) to_read ≡ true
@@ -106,7 +110,7 @@ pub record IsCalled (program : Program) (function : ℕ) (arguments : List Value
   pub has : HasBlocks program bases blocks (s.regs s0) (s.regs sp)
   pub bytes : All (λ byte. byte < 2 ^ 8) input
 
--- A call has come back to its return address, with its value in a0. The stack pointer, the stack's base and the place registers are as
+-- A call has come back to its return address, with its value in a0. The stack pointer, the stack's base and the saved registers are as
 -- they were, and so is each byte from the stack pointer on that is in no block that lives. Memory is shown, where blocks keep their
 -- addresses and new ones are dead. It has written what its events write, and the input is what the meaning leaves.
 pub record ComesBack (program : Program) (blocks : Memory) (bases : Bases) (back : ℕ) (g : Given Value) (did : List Event) (s : State) (input : List ℕ) : Type 0 where
@@ -116,7 +120,7 @@ pub record ComesBack (program : Program) (blocks : Memory) (bases : Bases) (back
   pub pc : state.pc ≡ back
   pub stack : state.regs sp ≡ s.regs sp
   pub base : state.regs s0 ≡ s.regs s0
-  pub kept : (r : ℕ) → IsPlaceRegister r → SameWord (s.regs r) (state.regs r)
+  pub kept : (r : ℕ) → IsSavedRegister r → SameWord (s.regs r) (state.regs r)
   pub bases' : Bases
   pub extends : Extends bases bases'
   pub value : Shows bases' g.value (state.regs a0)
@@ -137,7 +141,7 @@ DoesCall program least blocks bases back (Undefined did) s input = Unit {0}
 -- Or the stack does not suffice for the frames of the calls that are met.
 abbrev pub CallOutcome : Program → (least : ℕ) → Memory → Bases → (back : ℕ) → Answer (Given Value) → State → (input : List ℕ) → Type 0
 CallOutcome program least blocks bases back a s input =
-    Exceeds program.text.flags (frame_sizes program.functions) (s.regs sp - s.regs s0) (events a) s input ⊎ DoesCall program least blocks bases back a s input
+    Exceeds program.text.flags (frame_sizes program) (s.regs sp - s.regs s0) (events a) s input ⊎ DoesCall program least blocks bases back a s input
 
 -- Calls of this meaning run on the machine, each for so many instructions at least where it is cut.
 abbrev pub CallsRun : Program → (least : ℕ) → (ℕ → Call) → Type 0
@@ -148,4 +152,4 @@ CallsRun program least call =
 
 -- Functions run: at every bound, calls do on the machine what they mean over places.
 abbrev pub FunctionsRun : Type 0
-FunctionsRun = (program : Program) → ProgramCanRun program → (bound : ℕ) → CallsRun program bound (placed_calls (map placed program.functions) program.global bound)
+FunctionsRun = (program : Program) → ProgramCanRun program → (bound : ℕ) → CallsRun program bound (placed_calls (map (placed_by program) program.functions) program.global bound)

@@ -20,13 +20,13 @@ use Rattle.s_linear.specs.declared.frame.Frame.{Frame}
 use Rattle.s_select.specs.Conditions.{CanSelect}
 use Rattle.s_select.specs.Templates.{items_of}
 use Rattle.s_select_keeps.specs.Formats.{IsInRange}
-use Rattle.s_select_keeps.specs.Functions.{Program, places_of, FunctionCanRun, ProgramCanRun, HasBlocks}
+use Rattle.s_select_keeps.specs.Functions.{Layout, Program, FunctionCanRun, ProgramCanRun, HasBlocks}
 use Rattle.s_select_keeps.specs.Mains.{HasStart}
 use Rattle.s_select_keeps.specs.Programs.{text_loaded}
 use Rattle.s_select_keeps.specs.Relation.{Bases, ShowsMemory}
 
-abbrev pub function_items : LinearFunction → List Item
-function_items f = items_of (places_of f) f.objects (lines f)
+abbrev pub function_items : Layout → LinearFunction → List Item
+function_items places f = items_of (places f) f.objects (lines f)
 
 -- a constant is a word
 abbrev pub is_word_constant : Instr → Bool
@@ -43,33 +43,34 @@ SelectedCanRun =
     → IsTrue (all_of (λ o. leaves_fit o.size 0 o.leaves) f.objects) → FunctionCanRun globals p f
 
 -- these functions and globals in memory, as their image is loaded
-abbrev pub loaded_program : List LinearFunction → List PlainDelta → (main : ℕ) → (global : ℕ → Value) → Program
-loaded_program fs ds main global = record {
-  text = text_loaded (map function_items fs) ds main;
-  addresses = addresses_of (map function_items fs) ds;
+abbrev pub loaded_program : Layout → List LinearFunction → List PlainDelta → (main : ℕ) → (global : ℕ → Value) → Program
+loaded_program places fs ds main global = record {
+  text = text_loaded (map (function_items places) fs) ds main;
+  addresses = addresses_of (map (function_items places) fs) ds;
   functions = fs;
+  places = places;
   global = global;
 }
 
 -- A program that can be laid out can run once its image is loaded, where each function can and its labels are marked once at most.
 abbrev pub LaidProgramCanRun : Type 0
 LaidProgramCanRun =
-    (fs : List LinearFunction) (ds : List PlainDelta) (main : ℕ) (global : ℕ → Value) → CanLayOut (map function_items fs) ds main
-    → AreSound (executable_for (laid_out (map function_items fs) ds main)).segments
-    → ((k : ℕ) (f : LinearFunction) → slice_get fs k ≡ Some f → FunctionCanRun (length (addresses_of (map function_items fs) ds).globals) (places_of f) f)
-    → ((k : ℕ) (f : LinearFunction) → slice_get fs k ≡ Some f → (l : ℕ) → marks l (function_items f) ≤ 1) → ProgramCanRun (loaded_program fs ds main global)
+    (places : Layout) (fs : List LinearFunction) (ds : List PlainDelta) (main : ℕ) (global : ℕ → Value) → CanLayOut (map (function_items places) fs) ds main
+    → AreSound (executable_for (laid_out (map (function_items places) fs) ds main)).segments
+    → ((k : ℕ) (f : LinearFunction) → slice_get fs k ≡ Some f → FunctionCanRun (length (addresses_of (map (function_items places) fs) ds).globals) (places f) f)
+    → ((k : ℕ) (f : LinearFunction) → slice_get fs k ≡ Some f → (l : ℕ) → marks l (function_items places f) ≤ 1) → ProgramCanRun (loaded_program places fs ds main global)
 
 -- Its image begins at the start code, with its stack and its text, where it is placed. The last conditions are on the memory of its
 -- globals: it is shown in the bytes of the image, in blocks apart from the stack.
 abbrev pub LaidProgramStarts : Type 0
 LaidProgramStarts =
-    (fs : List LinearFunction) (ds : List PlainDelta) (main : ℕ) (global : ℕ → Value) (blocks : Memory) (bases : Bases) (input : List ℕ)
-    → CanLayOut (map function_items fs) ds main
-    → IsPlaced (laid_out (map function_items fs) ds main) → AreSound (executable_for (laid_out (map function_items fs) ds main)).segments
-    → ((k : ℕ) (f : LinearFunction) → slice_get fs k ≡ Some f → FunctionCanRun (length (addresses_of (map function_items fs) ds).globals) (places_of f) f)
-    → ShowsMemory (loaded_program fs ds main global).text.flags bases blocks (loaded_program fs ds main global).text.bytes
-    → HasBlocks (loaded_program fs ds main global) bases blocks (addresses_of (map function_items fs) ds).stack_at
-    ((addresses_of (map function_items fs) ds).stack_at + stack_size)
+    (places : Layout) (fs : List LinearFunction) (ds : List PlainDelta) (main : ℕ) (global : ℕ → Value) (blocks : Memory) (bases : Bases) (input : List ℕ)
+    → CanLayOut (map (function_items places) fs) ds main
+    → IsPlaced (laid_out (map (function_items places) fs) ds main) → AreSound (executable_for (laid_out (map (function_items places) fs) ds main)).segments
+    → ((k : ℕ) (f : LinearFunction) → slice_get fs k ≡ Some f → FunctionCanRun (length (addresses_of (map (function_items places) fs) ds).globals) (places f) f)
+    → ShowsMemory (loaded_program places fs ds main global).text.flags bases blocks (loaded_program places fs ds main global).text.bytes
+    → HasBlocks (loaded_program places fs ds main global) bases blocks (addresses_of (map (function_items places) fs) ds).stack_at
+    ((addresses_of (map (function_items places) fs) ds).stack_at + stack_size)
     → All (λ byte. byte < 2 ^ 8) input
-    → HasStart (loaded_program fs ds main global) main (addresses_of (map function_items fs) ds).stack_at put_at blocks bases input
-    (start (executable_for (laid_out (map function_items fs) ds main)))
+    → HasStart (loaded_program places fs ds main global) main (addresses_of (map (function_items places) fs) ds).stack_at put_at blocks bases input
+    (start (executable_for (laid_out (map (function_items places) fs) ds main)))

@@ -10,8 +10,8 @@ use Rattle.rv_machine.specs.Memory.{has_flag, to_read, to_write}
 use Rattle.rv_machine.specs.Standing.{HasText, CodeStands}
 use Rattle.rv_layout.specs.Sequences.{start_code}
 use Rattle.s_linear.specs.Meaning.{finished}
-use Rattle.a_place.specs.Placed.{placed, placed_calls}
-use Rattle.s_select_keeps.specs.Functions.{Program, ProgramCanRun, frame_sizes, HasBlocks}
+use Rattle.a_place.specs.Placed.{placed_calls}
+use Rattle.s_select_keeps.specs.Functions.{Program, ProgramCanRun, placed_by, frame_sizes, HasBlocks}
 use Rattle.s_select_keeps.specs.Relation.{Bases, ShowsMemory}
 use Rattle.s_select_keeps.specs.Starts.{main_returns}
 use Rattle.s_select_keeps.specs.Steps.{Ends, GoesOn, Exceeds}
@@ -26,7 +26,7 @@ DoesProgram program least (Undefined did) s input = Unit {0}
 
 -- Or its stack does not suffice for the frames of the calls that are met.
 abbrev pub StartOutcome : Program → (least : ℕ) → Answer (Given Value) → State → (input : List ℕ) → Type 0
-StartOutcome program least a s input = Exceeds program.text.flags (frame_sizes program.functions) stack_size (events a) s input ⊎ DoesProgram program least a s input
+StartOutcome program least a s input = Exceeds program.text.flags (frame_sizes program) stack_size (events a) s input ⊎ DoesProgram program least a s input
 
 -- The machine is at the start code, which stands; the stack may be read and written, and memory is shown, in which no block lies in the
 -- stack. The input is of bytes.
@@ -48,4 +48,4 @@ abbrev pub MainRuns : Type 0
 MainRuns =
     (program : Program) (main stack e bound : ℕ) (blocks : Memory) (bases : Bases) (input : List ℕ) (s : State) → ProgramCanRun program
     → HasStart program main stack e blocks bases input s
-    → StartOutcome program bound (then_on (placed_calls (map placed program.functions) program.global bound main [] blocks input) finished) s input
+    → StartOutcome program bound (then_on (placed_calls (map (placed_by program) program.functions) program.global bound main [] blocks input) finished) s input

@@ -8,7 +8,7 @@ use Rattle.val_core.specs.Memory.{Memory, Block, shape_of, is_at, load}
 use Rattle.rv_isa.specs.Registers.{sp, s0}
 use Rattle.rv_machine.specs.Machine as machine
 use Rattle.rv_machine.specs.Memory.{Bytes, load_bytes, has_flag, to_read, to_write, IsWidth}
-use Rattle.s_linear.specs.Frame.{registers, words_of}
+use Rattle.s_linear.specs.Frame.{registers, counted_for, words_of}
 use Rattle.s_linear.specs.Meaning as linear
 use Rattle.s_select.specs.declared.location.Location.{Location}
 use Rattle.s_select.specs.declared.location.Location.TheVariants.{Register, Near, Far}
@@ -100,11 +100,15 @@ pub record ShowsMemory (flags : ℕ → ℕ) (bases : Bases) (blocks : Memory) (
 
 -- ---- registers
 
--- s1 to s11, the registers of places
+-- the registers of places: s1 to s11, and t3 to t6 after them
 abbrev pub IsPlaceRegister : ℕ → Type 0
-IsPlaceRegister r = (r ≡ 9) ⊎ ((17 < r) × (r < 28))
+IsPlaceRegister r = (r ≡ 9) ⊎ (17 < r)
 
--- what a call leaves: the stack pointer, the stack's base and the registers of places
+-- those that a call keeps: s1 to s11
+abbrev pub IsSavedRegister : ℕ → Type 0
+IsSavedRegister r = (r ≡ 9) ⊎ ((17 < r) × (r < 28))
+
+-- what templates and stubs leave: the stack pointer, the stack's base and the registers of places
 abbrev pub IsKept : ℕ → Type 0
 IsKept r = (r ≡ sp) ⊎ (r ≡ s0) ⊎ IsPlaceRegister r
 
@@ -120,21 +124,26 @@ held stack regs mem (Register r) = regs r
 held stack regs mem (Near offset) = load_bytes mem (stack + offset) 4
 held stack regs mem (Far offset) = load_bytes mem (stack + offset) 4
 
--- What stays while the body of a function runs: how many places it has, its stack pointer, where blocks stand, and the machine
--- when the registers of its caller had been saved.
+-- What stays while the body of a function runs: how many saved registers and words it has, how many registers after them it uses
+-- that calls lose, its stack pointer, where blocks stand, and the machine when the registers of its caller had been saved.
 pub record Frame : Type 0 where
-  pub places : ℕ
+  pub count : ℕ
+  pub temporaries : ℕ
   pub sp : ℕ
   pub bases : Bases
   pub before : machine.State
 
 -- the frame with other addresses of blocks
 abbrev pub at_bases : Frame → Bases → Frame
-at_bases f bases = record { places = f.places; sp = f.sp; bases = bases; before = f.before }
+at_bases f bases = record { count = f.count; temporaries = f.temporaries; sp = f.sp; bases = bases; before = f.before }
+
+-- a place is a register that calls lose, or one of the saved registers and words of the frame
+abbrev pub IsPlaceOf : Frame → (place : ℕ) → Type 0
+IsPlaceOf f p = counted_for f.temporaries p ≤ f.count
 
 -- the address after the words of the frame that are places
 abbrev pub words_end : Frame → ℕ
-words_end f = f.sp + 4 * words_of f.places
+words_end f = f.sp + 4 * words_of f.count
 
 -- the words of the frame may be read and written
 pub record HasWords (text : Text) (f : Frame) : Type 0 where
@@ -148,8 +157,8 @@ pub record HasWords (text : Text) (f : Frame) : Type 0 where
 pub record Represents (text : Text) (f : Frame) (q : linear.State) (s : machine.State) : Type 0 where
   pub stack : s.regs sp ≡ f.sp
   pub base : s.regs s0 ≡ f.before.regs s0
-  pub places : (p : ℕ) → p < f.places → Shows f.bases (q.names p) (held f.sp s.regs s.mem (location_of p))
-  pub saved : (p : ℕ) → f.places ≤ p → p < registers → SameWord (f.before.regs (place_register p)) (s.regs (place_register p))
+  pub places : (p : ℕ) → IsPlaceOf f p → Shows f.bases (q.names p) (held f.sp s.regs s.mem (location_of f.temporaries p))
+  pub saved : (p : ℕ) → f.count ≤ p → p < registers → SameWord (f.before.regs (place_register p)) (s.regs (place_register p))
   pub above : (a : ℕ) → words_end f ≤ a → IsOutside f.bases q.memory a → s.mem a ≡ f.before.mem a
   pub memory : ShowsMemory text.flags f.bases q.memory s.mem
   pub apart : (a : ℕ) → f.sp ≤ a → a < words_end f → IsOutside f.bases q.memory a

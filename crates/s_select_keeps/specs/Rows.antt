@@ -13,9 +13,9 @@ use Rattle.rv_layout.specs.Sequences.{load_address}
 use Rattle.s_linear.specs.Meaning as linear
 use Rattle.s_linear.specs.Meaning.{set}
 use Rattle.s_select.specs.Operands.{location_of, load_immediate, out_of, store_out}
-use Rattle.s_select.specs.Templates.{binary_code, unary_code, with_two, with_one, with_none, move_code}
+use Rattle.s_select.specs.Templates.{binary_code, unary_code, with_two, with_one, with_none, move_between}
 use Rattle.rv_machine.specs.Standing.{Text, CodeStands}
-use Rattle.s_select_keeps.specs.Relation.{Shows, Frame, HasWords, Represents}
+use Rattle.s_select_keeps.specs.Relation.{Shows, Frame, IsPlaceOf, HasWords, Represents}
 use Rattle.s_select_keeps.specs.Steps.{Arrives}
 
 -- from a state of the machine on, code that stands at pc leads to its end, where the machine stands for a state of linear code
@@ -28,7 +28,7 @@ InBody P = (text : Text) (f : Frame) (q : linear.State) (s : machine.State) → 
 
 abbrev pub ConstIsDone : Type 0
 ConstIsDone =
-    InBody (λ text f q s. (t w : ℕ) → t < f.places → w < 2 ^ 32 → Does text f s (with_none (location_of t) (λ rd. load_immediate rd w)) (set q t (Num w)))
+    InBody (λ text f q s. (t w : ℕ) → IsPlaceOf f t → w < 2 ^ 32 → Does text f s (with_none (location_of f.temporaries t) (λ rd. load_immediate rd w)) (set q t (Num w)))
 
 abbrev pub UndefIsDone : Type 0
 UndefIsDone = InBody (λ text f q s. (t : ℕ) → Does text f s [] (set q t Bad))
@@ -36,24 +36,24 @@ UndefIsDone = InBody (λ text f q s. (t : ℕ) → Does text f s [] (set q t Bad
 -- the address of an object, at an offset from the stack pointer
 abbrev pub ObjectAddressIsDone : Type 0
 ObjectAddressIsDone =
-    InBody (λ text f q s. (t offset : ℕ) (v : Value) → t < f.places → f.sp + offset < 2 ^ 32 → Shows f.bases v (f.sp + offset)
-    → Does text f s (with_none (location_of t) (λ rd. load_immediate t0 offset ++ Add rd t0 sp ∷ [])) (set q t v))
+    InBody (λ text f q s. (t offset : ℕ) (v : Value) → IsPlaceOf f t → f.sp + offset < 2 ^ 32 → Shows f.bases v (f.sp + offset)
+    → Does text f s (with_none (location_of f.temporaries t) (λ rd. load_immediate t0 offset ++ Add rd t0 sp ∷ [])) (set q t v))
 
 abbrev pub GlobalAddressIsDone : Type 0
 GlobalAddressIsDone =
-    InBody (λ text f q s. (t address : ℕ) (v : Value) → t < f.places → address < 2 ^ 32 → Shows f.bases v address
-    → Does text f s (load_address (out_of (location_of t)) address ++ store_out (location_of t)) (set q t v))
+    InBody (λ text f q s. (t address : ℕ) (v : Value) → IsPlaceOf f t → address < 2 ^ 32 → Shows f.bases v address
+    → Does text f s (load_address (out_of (location_of f.temporaries t)) address ++ store_out (location_of f.temporaries t)) (set q t v))
 
 abbrev pub BinaryIsDone : Type 0
 BinaryIsDone =
-    InBody (λ text f q s. (o : Op2) (t a b : ℕ) → t < f.places → a < f.places → b < f.places
-    → Does text f s (with_two (location_of t) (location_of a) (location_of b) (binary_code o)) (set q t (value2 o (q.names a) (q.names b))))
+    InBody (λ text f q s. (o : Op2) (t a b : ℕ) → IsPlaceOf f t → IsPlaceOf f a → IsPlaceOf f b
+    → Does text f s (with_two (location_of f.temporaries t) (location_of f.temporaries a) (location_of f.temporaries b) (binary_code o)) (set q t (value2 o (q.names a) (q.names b))))
 
 abbrev pub UnaryIsDone : Type 0
 UnaryIsDone =
-    InBody (λ text f q s. (o : Op1) (t a : ℕ) → t < f.places → a < f.places
-    → Does text f s (with_one (location_of t) (location_of a) (unary_code o)) (set q t (value1 o (q.names a))))
+    InBody (λ text f q s. (o : Op1) (t a : ℕ) → IsPlaceOf f t → IsPlaceOf f a
+    → Does text f s (with_one (location_of f.temporaries t) (location_of f.temporaries a) (unary_code o)) (set q t (value1 o (q.names a))))
 
 abbrev pub MoveIsDone : Type 0
 MoveIsDone =
-    InBody (λ text f q s. (t a : ℕ) → t < f.places → a < f.places → Does text f s (move_code (location_of t) (location_of a)) (set q t (q.names a)))
+    InBody (λ text f q s. (t a : ℕ) → IsPlaceOf f t → IsPlaceOf f a → Does text f s (move_between f.temporaries t a) (set q t (q.names a)))

@@ -12,7 +12,7 @@ use Rattle.rv_layout.specs.Sequences.{call, put_stub, get_stub}
 use Rattle.s_linear.specs.Meaning.{got}
 use Rattle.s_select.specs.Operands as select
 use Rattle.s_select.specs.Operands.{location_of, get}
-use Rattle.s_select_keeps.specs.Relation.{IsOutside, Frame}
+use Rattle.s_select_keeps.specs.Relation.{IsOutside, Frame, IsPlaceOf}
 use Rattle.s_select_keeps.specs.Rows.{InBody}
 use Rattle.s_select_keeps.specs.Steps.{Comes, Follows}
 
@@ -34,13 +34,13 @@ pub record StubsStand (text : Text) (buffer : ℕ) : Type 0 where
 
 abbrev pub PutIsDone : Type 0
 PutIsDone =
-    InBody (λ text f q s. (a w buffer m b : ℕ) → a < f.places → q.names a ≡ Num w → IsBuffer text f q.memory buffer → StubsStand text buffer
-    → CodeStands text s.pc (get a0 (location_of a)) m → CodeStands text m (call (offset_to m layout.put_at)) b → b < 2 ^ 32
+    InBody (λ text f q s. (a w buffer m b : ℕ) → IsPlaceOf f a → q.names a ≡ Num w → IsBuffer text f q.memory buffer → StubsStand text buffer
+    → CodeStands text s.pc (get a0 (location_of f.temporaries a)) m → CodeStands text m (call (offset_to m layout.put_at)) b → b < 2 ^ 32
     → Comes text f b q (wrote (w % 256) ∷ []) s q.input)
 
 -- The input is of bytes.
 abbrev pub GetIsDone : Type 0
 GetIsDone =
-    InBody (λ text f q s. (t buffer m b least : ℕ) → t < f.places → All (λ byte. byte < 2 ^ 8) q.input → IsBuffer text f q.memory buffer → StubsStand text buffer
-    → CodeStands text s.pc (call (offset_to s.pc get_at)) m → CodeStands text m (select.put (location_of t) a0) b → b < 2 ^ 32
+    InBody (λ text f q s. (t buffer m b least : ℕ) → IsPlaceOf f t → All (λ byte. byte < 2 ^ 8) q.input → IsBuffer text f q.memory buffer → StubsStand text buffer
+    → CodeStands text s.pc (call (offset_to s.pc get_at)) m → CodeStands text m (select.put (location_of f.temporaries t) a0) b → b < 2 ^ 32
     → Follows text f b least (got q t q.input) s q.input)

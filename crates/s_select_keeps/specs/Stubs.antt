@@ -8,8 +8,8 @@ use Rattle.rv_machine.specs.Standing.{Text, HasText, CodeStands}
 use Rattle.rv_layout.specs.Sequences.{put_stub, get_stub}
 use Rattle.s_select_keeps.specs.Relation.{IsKept}
 
--- A stub has written these bytes and taken what is missing of the input, and has returned, with this memory. What a call leaves has
--- not changed.
+-- A stub has written these bytes and taken what is missing of the input, and has returned, with this memory. No register of a place
+-- has changed, nor the stack pointer and the stack's base.
 pub record FromStub (text : Text) (s : State) (back : ℕ) (left : Bytes) (input written rest : List ℕ) : Type 0 where
   pub state : State
   pub count : ℕ

@@ -28,6 +28,10 @@ use Rattle.s_select_keeps.specs.Streams.{IsBuffer, StubsStand}
 abbrev pub place_at : PlainPlaces → (name : ℕ) → ℕ
 place_at p x = slice_index p.of x
 
+-- the frame is for these places
+abbrev pub HasPlaces : Frame → PlainPlaces → Type 0
+HasPlaces f p = (f.count ≡ p.count) × (f.temporaries ≡ p.temporaries)
+
 -- Object k of a function is a block that lives and may be written, and stands in the frame.
 pub record ObjectStands (f : Frame) (p : PlainPlaces) (os : List PlainObject) (address : Value) (blocks : Memory) (k : ℕ) : Type 0 where
   pub name : BlockName
@@ -42,7 +46,7 @@ pub record ObjectStands (f : Frame) (p : PlainPlaces) (os : List PlainObject) (a
 -- The frame is that of a body with these places and objects, in a program laid out at these addresses: its objects and the globals
 -- stand where the body finds them, and the stubs and their buffer are there.
 pub record IsBody (text : Text) (f : Frame) (addresses : Addresses) (p : PlainPlaces) (os : List PlainObject) (named : objects.Addresses) (blocks : Memory) : Type 0 where
-  pub count : f.places ≡ p.count
+  pub places : HasPlaces f p
   pub objects : (k : ℕ) → k < length os → ObjectStands f p os (named.local k) blocks k
   pub globals : (k : ℕ) → k < length addresses.globals → (slice_index addresses.globals k < 2 ^ 32) × Shows f.bases (named.global k) (slice_index addresses.globals k)
   pub buffer : IsBuffer text f blocks addresses.data_at

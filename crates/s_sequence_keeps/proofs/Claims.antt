@@ -13,7 +13,7 @@ use Rattle.g_mean.specs.Meaning as graph
 use Rattle.g_mean.specs.Meaning.{Meaning, no_outputs, nodes_run}
 use Rattle.s_linear.specs.Linear.{Code, no_steps}
 use Rattle.s_linear.specs.Meaning as linear
-use Rattle.s_linear.specs.Meaning.{State, Run, Call, step_run, code_run}
+use Rattle.s_linear.specs.Meaning.{State, Run, Call, none_lost, step_run, code_run}
 use Rattle.s_sequence.specs.Sequence.{value_args, Names, no_names, nodes_names, node_names, outputs_at, named, nodes_named, nodes_code, node_step}
 use Rattle.s_sequence_keeps.specs.Agreement.{Agrees}
 use Rattle.s_sequence_keeps.proofs.AgreeingAnswers.{agrees-number, agrees-unread}
@@ -25,7 +25,7 @@ abbrev pub graph_context : ℕ → (ℕ → Meaning) → Addresses → graph.Con
 graph_context n call addresses = record { bound = n; call = call; addresses = addresses }
 
 abbrev pub code_context : ℕ → (ℕ → Call) → Addresses → linear.Context
-code_context n callees addresses = record { bound = n; call = callees; addresses = addresses }
+code_context n callees addresses = record { bound = n; call = callees; lost = none_lost; addresses = addresses }
 
 -- code after that of nodes is done after them
 pub nodes-then : (d : linear.Context) (args : List Kind) (base : ℕ) (names : Names) (next : ℕ) (ns : NodeTrees) (k : Code) (s : State) →

@@ -22,7 +22,7 @@ use Rattle.g_mean.specs.Data.{Datum, val, memory, input, at_port, value_at, take
 use Rattle.g_mean.specs.Meaning as graph
 use Rattle.g_mean.specs.Meaning.{Meaning, done, given, given_memory}
 use Rattle.s_linear.specs.Meaning as linear
-use Rattle.s_linear.specs.Meaning.{State, Context, Call, set, gives, gives_memory, written, instr_run, back_from}
+use Rattle.s_linear.specs.Meaning.{State, Context, Call, set, gives, gives_memory, written, instr_run, none_lost, back_from}
 use Rattle.s_sequence.specs.Sequence.{name_at, without_states, op_instr}
 use Rattle.s_sequence_keeps.specs.Agreement.{Agrees, AreLessDefined, GivesBack}
 use Rattle.s_sequence_keeps.proofs.AgreeingAnswers.{agrees-then, agrees-number, agrees-defined}
@@ -149,7 +149,7 @@ module _ {A B : Type 0} (R : A → B → Type 0) where
 
 module _ (n : ℕ) (callees : ℕ → Call) (addresses : Addresses) (first next : ℕ) (s : State) where
   abbrev around : Context
-  around = record { bound = n; call = callees; addresses = addresses }
+  around = record { bound = n; call = callees; lost = none_lost; addresses = addresses }
 
   abbrev Done : List (Option Kind) → List Datum → State → Type 0
   Done kinds ys t = NodeDone next next kinds s ys t
@@ -290,11 +290,11 @@ module _ (n : ℕ) (callees : ℕ → Call) (addresses : Addresses) (first next 
   call-agrees call agree f count us xs h =
       let t = takes count us xs h in
       let ws = map s.names (without_states xs) in
-      rw t.is (subst (λ a. Agrees (Done (Some ValueKind ∷ Some Memory ∷ Some Io ∷ [])) a (then_on (callees f ws s.memory s.input) (back_from s next)))
+      rw t.is (subst (λ a. Agrees (Done (Some ValueKind ∷ Some Memory ∷ Some Io ∷ [])) a (then_on (callees f ws s.memory s.input) (back_from none_lost s next)))
       (then_nothing (call f (taken t.values s.memory s.input)))
       (agrees-then GivesBack (Done (Some ValueKind ∷ Some Memory ∷ Some Io ∷ [])) (call f (taken t.values s.memory s.input)) (callees f ws s.memory s.input)
       (λ ys. Returned ys [])
-      (back_from s next) (agree f t.values ws t.less s.memory s.input) back))
+      (back_from none_lost s next) (agree f t.values ws t.less s.memory s.input) back))
     where
-      back : (ys : List Datum) (g : Given Value) → GivesBack ys g → Agrees (Done (Some ValueKind ∷ Some Memory ∷ Some Io ∷ [])) (Returned ys []) (back_from s next g)
+      back : (ys : List Datum) (g : Given Value) → GivesBack ys g → Agrees (Done (Some ValueKind ∷ Some Memory ∷ Some Io ∷ [])) (Returned ys []) (back_from none_lost s next g)
       back ys g b = (rw b.is (back-done next s b.value g b.less), refl)

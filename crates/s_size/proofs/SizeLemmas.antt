@@ -1,5 +1,5 @@
 -- The bytes of templates.
-use Rattle.std.proofs.Common.{◌≡◌, ℕ, zero, suc, ◌+◌, ◌*◌, ◌/◌, ◌%◌, ◌^◌, refl, Bool, true, false, List, [], ◌∷◌, ◌++◌, if◌then◌else◌, length, arith}
+use Rattle.std.proofs.Common.{◌≡◌, ℕ, zero, suc, ◌+◌, ◌*◌, ◌/◌, ◌%◌, ◌^◌, ◌==◌, refl, Bool, true, false, List, [], ◌∷◌, ◌++◌, if◌then◌else◌, length, slice_index, arith}
 use Rattle.std.proofs.lemmas.List.{length-append}
 use Rattle.std.proofs.lemmas.List.Sums.{sum_by-cons, sum_by-append}
 use Rattle.std.specs.Prelude.{nat_lt}
@@ -21,7 +21,7 @@ use Rattle.rv_layout.specs.declared.item.Item.TheVariants.{Word, Jump, Call, Stu
 use Rattle.rv_layout.specs.Items.{item_size, items_size}
 use Rattle.s_select.specs.declared.location.Location.{Location}
 use Rattle.s_select.specs.declared.location.Location.TheVariants.{Register, Near, Far}
-use Rattle.s_select.specs.Operands.{negative, place_register, load_immediate, get, put, in_of, load_in, out_of, store_out}
+use Rattle.s_select.specs.Operands.{negative, place_register, location_of, load_immediate, get, put, in_of, load_in, out_of, store_out}
 use Rattle.s_select.specs.Templates as t
 use Rattle.s_select.specs.Templates.{words, place_of, size_of, instr_items, line_items}
 use Rattle.s_size.specs.Sizes.{immediate, operand, copy, move_count, binary_count, unary_count, copies, instr_count, line_count}
@@ -67,6 +67,14 @@ moves : (to from : Location) → length (t.move_code to from) ≡ move_count to 
 moves (Register r) from = gets r from
 moves (Near o) from = omega (arith, length-append (load_in t0 from) (put (Near o) (in_of from t0)), loads_in t0 from)
 moves (Far o) from = omega (arith, length-append (load_in t0 from) (put (Far o) (in_of from t0)), loads_in t0 from)
+
+-- from a place to another, or to itself
+moves_between : (n p q : ℕ) → length (t.move_between n p q) ≡ (if p == q then 0 else move_count (location_of n p) (location_of n q))
+moves_between n p q =
+    elim (p == q) as (λ b. length (if b then [] else t.move_code (location_of n p) (location_of n q)) ≡ (if b then 0 else move_count (location_of n p) (location_of n q))) [
+      | true ↦ refl
+      | false ↦ moves (location_of n p) (location_of n q)
+    ]
 
 -- ---- instructions with operands
 
@@ -197,7 +205,8 @@ instr_bytes p os (linear.clear k) = words_of (t.clear_code (object_at p.count os
 instr_bytes p os (linear.equal_pointers l a b) =
     words_of (t.with_two (place_of p l) (place_of p a) (place_of p b) (t.binary_code op.Eq)) _
     (with_two (place_of p l) (place_of p a) (place_of p b) (t.binary_code op.Eq) 2 refl)
-instr_bytes p os (linear.move l a) = words_of (t.move_code (place_of p l) (place_of p a)) _ (moves (place_of p l) (place_of p a))
+instr_bytes p os (linear.move l a) =
+    words_of (t.move_between p.temporaries (slice_index p.of l) (slice_index p.of a)) _ (moves_between p.temporaries (slice_index p.of l) (slice_index p.of a))
 instr_bytes p os (linear.call f l xs) =
     omega
     (arith, size-append (words (t.get_arguments p a0 xs)) (Call f ∷ words (put (place_of p l) a0)), sum_by-cons item_size (Call f) (words (put (place_of p l) a0)), words_bytes (t.get_arguments p a0 xs), words_bytes (put (place_of p l) a0), arguments p a0 xs, puts (place_of p l) a0)

@@ -1,5 +1,5 @@
 -- How many instructions the template of each line has.
-use Rattle.std.specs.Prelude.{ℕ, ◌+◌, ◌*◌, ◌/◌, ◌%◌, ◌^◌, nat_lt, if◌then◌else◌, List, sum_by}
+use Rattle.std.specs.Prelude.{ℕ, ◌+◌, ◌*◌, ◌/◌, ◌%◌, ◌^◌, ◌==◌, nat_lt, if◌then◌else◌, List, slice_index, sum_by}
 use Rattle.val_core.specs.declared.operation.Op1.{Op1}
 use Rattle.val_core.specs.declared.operation.Op1.TheVariants.{Zext8}
 use Rattle.val_core.specs.declared.operation.Op2.{Op2}
@@ -55,7 +55,7 @@ instr_count p os (load width t a) = operand (place_of p a) + 1 + operand (place_
 instr_count p os (store width a v) = operand (place_of p a) + operand (place_of p v) + 1
 instr_count p os (clear k) = immediate (object_at p.count os k) + immediate ((size_of os k + 3) / 4 * 4) + 5
 instr_count p os (equal_pointers t a b) = operand (place_of p a) + operand (place_of p b) + 2 + operand (place_of p t)
-instr_count p os (move t a) = move_count (place_of p t) (place_of p a)
+instr_count p os (move t a) = if slice_index p.of t == slice_index p.of a then 0 else move_count (place_of p t) (place_of p a)
 instr_count p os (call f t xs) = copies p xs + 2 + copy (place_of p t)
 instr_count p os (put a) = copy (place_of p a) + 2
 instr_count p os (get t) = 2 + copy (place_of p t)

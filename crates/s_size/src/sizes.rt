@@ -1,6 +1,6 @@
 //! How many bytes of the text a line of linear code has.
 
-ghost use Rattle.std.specs.Prelude.{◌≡◌, ◌+◌, ◌-◌, ◌*◌, ◌<◌, ◌≤◌, ◌^◌, IsTrue, length, sum_by, IfOk};
+ghost use Rattle.std.specs.Prelude.{◌≡◌, ◌+◌, ◌-◌, ◌*◌, ◌==◌, ◌<◌, ◌≤◌, ◌^◌, if◌then◌else◌, IsTrue, length, slice_index, sum_by, IfOk};
 ghost use Rattle.g_graph.specs.WellFormed.{all_of};
 ghost use Rattle.s_linear.specs.Frame.{frame_size, object_at, object_room, objects_at, registers, saved_of};
 ghost use Rattle.s_linear.specs.Linear as linear;
@@ -21,7 +21,7 @@ use s_linear::{Instr, Line, Places};
 use std::alloc::Global;
 use val_core::{Op1, Op2};
 
-// How many places are registers; the others are words of the frame.
+// How many places are registers that a call keeps.
 const REGISTERS: u32 = 11;
 
 /// A function whose lines have a size: its places, its memory objects, where each of these begins,
@@ -35,6 +35,7 @@ pub struct Function<'a> {
     ghost begins: { offsets.now ≡ offsets_from (objects_at places.now.count) objects.now },
     ghost sized: { size ≡ frame_size places.now.count objects.now },
     ghost fits: { frame_size places.now.count objects.now < 2 ^ 32 },
+    ghost few: { places.now.temporaries ≤ 4 },
 }
 
 fn object_room(object: &Object) -> u32
@@ -66,15 +67,18 @@ fn immediate(word: u32) -> u32
     if Imm12::fits(word) { 1 } else { 2 }
 }
 
-// The instructions by which an operand comes to a register, or a result from one.
-fn operand(place: u32) -> u32
-    requires { 4 * (place - registers) < 2 ^ 32 }
-    ensures count { result ≡ operand (location_of place) }
+// The instructions by which an operand comes to a register, or a result from one, with so many
+// temporaries.
+fn operand(temporaries: u32, place: u32) -> u32
+    requires few { temporaries ≤ 4 }
+    requires small { 4 * (place - (registers + temporaries)) < 2 ^ 32 }
+    ensures count { result ≡ operand (location_of temporaries place) }
     ensures few { result ≤ 3 }
 {
-    if place < REGISTERS {
+    let first_word = REGISTERS + temporaries;
+    if place < first_word {
         0
-    } else if 4 * (place - REGISTERS) < 2048 {
+    } else if 4 * (place - first_word) < 2048 {
         1
     } else {
         3
@@ -82,12 +86,14 @@ fn operand(place: u32) -> u32
 }
 
 // The instructions that copy between a register and a place.
-fn copy(place: u32) -> u32
-    requires { 4 * (place - registers) < 2 ^ 32 }
-    ensures count { result ≡ copy (location_of place) }
+fn copy(temporaries: u32, place: u32) -> u32
+    requires few { temporaries ≤ 4 }
+    requires small { 4 * (place - (registers + temporaries)) < 2 ^ 32 }
+    ensures count { result ≡ copy (location_of temporaries place) }
     ensures few { result ≤ 3 }
 {
-    if place < REGISTERS || 4 * (place - REGISTERS) < 2048 {
+    let first_word = REGISTERS + temporaries;
+    if place < first_word || 4 * (place - first_word) < 2048 {
         1
     } else {
         3
@@ -115,16 +121,20 @@ const fn unary_count(op: Op1) -> u32
 }
 
 // The instructions of a move from one place to another.
-fn move_count(to: u32, from: u32) -> u32
-    requires to { 4 * (to - registers) < 2 ^ 32 }
-    requires from { 4 * (from - registers) < 2 ^ 32 }
-    ensures count { result ≡ move_count (location_of to) (location_of from) }
+fn move_count(temporaries: u32, to: u32, from: u32) -> u32
+    requires few { temporaries ≤ 4 }
+    requires to { 4 * (to - (registers + temporaries)) < 2 ^ 32 }
+    requires from { 4 * (from - (registers + temporaries)) < 2 ^ 32 }
+    ensures count { result ≡ if to == from then 0 else move_count (location_of temporaries to)
+        (location_of temporaries from) }
     ensures few { result ≤ 6 }
 {
-    if to < REGISTERS {
-        copy(from)
+    if to == from {
+        0
+    } else if to < REGISTERS + temporaries {
+        copy(temporaries, from)
     } else {
-        operand(from) + copy(to)
+        operand(temporaries, from) + copy(temporaries, to)
     }
 }
 
@@ -132,8 +142,8 @@ impl Function<'_> {
     // The place of a name.
     fn place(&self, name: u32) -> u32
         requires { IsTrue (has_place self.now.places.now name) }
-        ensures location { location_of result ≡ place_of self.now.places.now name }
-        ensures small { 4 * (result - registers) < 2 ^ 32 }
+        ensures place { result ≡ slice_index self.now.places.now.of name }
+        ensures small { 4 * (result - (registers + self.now.places.now.temporaries)) < 2 ^ 32 }
     {
         let places = self.places;
         places.of[name as usize]
@@ -144,7 +154,8 @@ impl Function<'_> {
         ensures count { result ≡ operand (place_of self.now.places.now name) }
         ensures few { result ≤ 3 }
     {
-        operand(self.place(name))
+        let places = self.places;
+        operand(places.temporaries, self.place(name))
     }
 
     fn copy(&self, name: u32) -> u32
@@ -152,7 +163,8 @@ impl Function<'_> {
         ensures count { result ≡ copy (place_of self.now.places.now name) }
         ensures few { result ≤ 3 }
     {
-        copy(self.place(name))
+        let places = self.places;
+        copy(places.temporaries, self.place(name))
     }
 
     fn copies(&self, names: &[u32]) -> u32
@@ -239,6 +251,17 @@ impl Function<'_> {
         self.operand(input) + count + self.operand(target)
     }
 
+    fn move_count(&self, target: u32, source: u32) -> u32
+        requires target { IsTrue (has_place self.now.places.now target) }
+        requires source { IsTrue (has_place self.now.places.now source) }
+        ensures count { result ≡ instr_count self.now.places.now self.now.objects.now
+            (linear.move target source) }
+        ensures few { result ≤ 6 }
+    {
+        let places = self.places;
+        move_count(places.temporaries, self.place(target), self.place(source))
+    }
+
     fn call(&self, target: u32, arguments: &[u32]) -> u32
         requires target { IsTrue (has_place self.now.places.now target) }
         requires arguments { IsTrue (all_of (has_place self.now.places.now) arguments.now) }
@@ -288,7 +311,7 @@ impl Function<'_> {
                 left,
                 right,
             } => self.with_two(*target, *left, *right, 2),
-            Instr::Move { target, source } => move_count(self.place(*target), self.place(*source)),
+            Instr::Move { target, source } => self.move_count(*target, *source),
             Instr::Call {
                 target,
                 arguments,

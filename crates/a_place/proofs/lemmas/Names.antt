@@ -6,7 +6,7 @@ use Rattle.g_graph.specs.WellFormed.{some_of}
 use Rattle.s_linear.specs.Lines.{Line, line_names}
 use Rattle.a_place.specs.Places.{among, occurs, above, name_count}
 
-above_all : (x : ℕ) (xs : List ℕ) → among x xs ≡ true → x < above xs
+pub above_all : (x : ℕ) (xs : List ℕ) → among x xs ≡ true → x < above xs
 above_all x [] e = cc
 above_all x (y ∷ ys) e =
     elim (or_cases (y == x) (among x ys) e) [

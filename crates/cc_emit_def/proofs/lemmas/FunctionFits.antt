@@ -12,18 +12,19 @@ use Rattle.g_graph.specs.Lists.{RegionOps, Calls}
 use Rattle.g_graph.specs.Program.{lambda_values, IsFunctionWithinLimits}
 use Rattle.g_graph.specs.WellFormed.{all_of}
 use Rattle.g_graph.proofs.lemmas.Ops.{region_follows}
+use Rattle.s_linear.specs.declared.frame.CodeForm.{CodeForm}
+use Rattle.s_linear.specs.declared.frame.CodeForm.TheVariants.{Plain, Tight}
 use Rattle.s_linear.proofs.lemmas.Labels.{labels_are_marked_once, lines_go_to_labels}
 use Rattle.s_sequence.proofs.lemmas.Instrs.{calls_keep_arguments, globals_are_there}
 use Rattle.s_sequence.specs.Laws.{Applies}
 use Rattle.s_sequence.specs.Sequence.{sequenced}
-use Rattle.a_place.specs.Places.{places}
 use Rattle.rv_layout.specs.Items.{items_size}
 use Rattle.rv_layout.specs.Globals.{global_room, is_where, globals_where}
 use Rattle.rv_layout.specs.Layout.{stack_address}
 use Rattle.rv_layout.specs.Conditions.{labels_are_marked, is_within_reach, item_fits, function_fits, global_fits}
 use Rattle.s_select.proofs.lemmas.Selected.{selected_labels_are_marked, selected_items_fit}
 use Rattle.elf_file.specs.Image.{text_at, stack_size, memory_limit}
-use Rattle.cc_emit_def.specs.Image.{lines_of, function_items, code_size, main_of, CanEmit}
+use Rattle.cc_emit_def.specs.Image.{lines_of, places_of, function_items, code_size, main_of, CanEmit}
 use Rattle.cc_emit_def.specs.Laws.{HasFewArguments, FunctionsFit}
 use Rattle.cc_emit_def.proofs.CodeSize.{code_is_short}
 use Rattle.cc_emit_def.proofs.Globals.{globals_fit}
@@ -82,16 +83,16 @@ has_callee ls Theta n h = tt
 -- ---- sizes
 
 -- of so many lambdas together
-code_sum : (ls : List PlainLambda) → ((f : ℕ) (l : PlainLambda) → slice_get ls f ≡ Some l → code_size l ≤ 32 * lambda_values l + 256)
-    → sum_by items_size (map function_items ls) ≤ 32 * sum_by lambda_values ls + 256 * length ls
-code_sum [] h = omega arith
-code_sum (l ∷ ls) h =
+code_sum : (form : CodeForm) (ls : List PlainLambda) → ((f : ℕ) (l : PlainLambda) → slice_get ls f ≡ Some l → code_size form l ≤ 32 * lambda_values l + 256)
+    → sum_by items_size (map (function_items form) ls) ≤ 32 * sum_by lambda_values ls + 256 * length ls
+code_sum form [] h = omega arith
+code_sum form (l ∷ ls) h =
     omega (
       arith,
-      sum_by-cons items_size (function_items l) (map function_items ls),
+      sum_by-cons items_size (function_items form l) (map (function_items form) ls),
       sum_by-cons lambda_values l ls,
       h 0 l refl,
-      code_sum ls (λ f k e. h (suc f) k e),
+      code_sum form ls (λ f k e. h (suc f) k e),
     )
 
 room_sum : (fixed : Bool) (ds : List PlainDelta) → sum_by global_room (globals_where fixed ds) ≤ sum_by global_room ds
@@ -103,28 +104,32 @@ room_sum fixed (d ∷ ds) =
       | false ↦ omega (arith, rest, sum_by-cons global_room d ds)
     ]
 
+few : (form : CodeForm) (l : PlainLambda) → (places_of form l).temporaries ≤ 4
+few Plain l = omega arith
+few Tight l = omega arith
+
 -- ---- a program
 
 module _ (program : PlainOmega) (ls : List PlainLambda) (can : CanEmit program ls) where
   pub arguments_few : (f : ℕ) (l : PlainLambda) → slice_get ls f ≡ Some l → RegionOps HasFewArguments l.body
   arguments_few f l there = region_follows (Calls ls) HasFewArguments (few_arguments ls can.limits.each) l.body (can.program.complete.calls f l there)
 
-  size_of_code : (f : ℕ) (l : PlainLambda) → slice_get ls f ≡ Some l → code_size l ≤ 32 * lambda_values l + 256
-  size_of_code f l there = code_is_short lines_are_short l (can.limits.each f l there).parameters (arguments_few f l there)
+  size_of_code : (form : CodeForm) (f : ℕ) (l : PlainLambda) → slice_get ls f ≡ Some l → code_size form l ≤ 32 * lambda_values l + 256
+  size_of_code form f l there = code_is_short lines_are_short form l (can.limits.each f l there).parameters (arguments_few f l there)
 
-  pub within_reach : (f : ℕ) (l : PlainLambda) → slice_get ls f ≡ Some l → is_within_reach (function_items l) ≡ true
-  within_reach f l there = lt-ltb (code_size l) (2 ^ 20) (omega (arith, size_of_code f l there, (can.limits.each f l there).values))
+  pub within_reach : (form : CodeForm) (f : ℕ) (l : PlainLambda) → slice_get ls f ≡ Some l → is_within_reach (function_items form l) ≡ true
+  within_reach form f l there = lt-ltb (code_size form l) (2 ^ 20) (omega (arith, size_of_code form f l there, (can.limits.each f l there).values))
 
-  function_fits_there : (f : ℕ) (l : PlainLambda) → slice_get ls f ≡ Some l → function_fits (length ls) (length program.deltas) (function_items l) ≡ true
-  function_fits_there f l there =
+  function_fits_there : (form : CodeForm) (f : ℕ) (l : PlainLambda) → slice_get ls f ≡ Some l → function_fits (length ls) (length program.deltas) (function_items form l) ≡ true
+  function_fits_there form f l there =
       let functions = length ls in
       let globals = length program.deltas in
-      let p = places (lines_of l) in
+      let p = places_of form l in
       let callees = region_follows (Calls ls) (Applies (λ f n. nat_lt f functions)) (has_callee ls) l.body (can.program.complete.calls f l there) in
-      and_from (labels_are_marked (function_items l) && is_within_reach (function_items l)) (all_of (item_fits functions globals) (function_items l))
-      (and_from (labels_are_marked (function_items l)) (is_within_reach (function_items l))
-      (selected_labels_are_marked labels_are_marked_once lines_go_to_labels (sequenced l) p l.objects) (within_reach f l there))
-      (selected_items_fit functions globals p l.objects (lines_of l) (calls_keep_arguments (λ f n. nat_lt f functions) l callees)
+      and_from (labels_are_marked (function_items form l) && is_within_reach (function_items form l)) (all_of (item_fits functions globals) (function_items form l))
+      (and_from (labels_are_marked (function_items form l)) (is_within_reach (function_items form l))
+      (selected_labels_are_marked labels_are_marked_once lines_go_to_labels (sequenced l) p l.objects) (within_reach form f l there))
+      (selected_items_fit functions globals p l.objects (lines_of l) (few form l) (calls_keep_arguments (λ f n. nat_lt f functions) l callees)
       (globals_are_there globals l (can.program.named f l there)))
 
   pub main_there : main_of program < length ls
@@ -132,8 +137,8 @@ module _ (program : PlainOmega) (ls : List PlainLambda) (can : CanEmit program l
       let m = can.program.main in
       subst (λ n. n < length ls) (sym (ap (λ o. unwrap_or o 0) m.named)) (slice_get_within ls m.index m.lambda m.there)
 
-  pub text_sum : sum_by items_size (map function_items ls) ≤ 147148800
-  text_sum = omega (arith, code_sum ls size_of_code, can.limits.values, can.limits.functions)
+  pub text_sum : (form : CodeForm) → sum_by items_size (map (function_items form) ls) ≤ 147148800
+  text_sum form = omega (arith, code_sum form ls (size_of_code form), can.limits.values, can.limits.functions)
 
   fixed_sum : sum_by global_room (globals_where true program.deltas) ≤ 1048576
   fixed_sum = omega (arith, room_sum true program.deltas, can.limits.globals)
@@ -141,15 +146,15 @@ module _ (program : PlainOmega) (ls : List PlainLambda) (can : CanEmit program l
   other_sum : sum_by global_room (globals_where false program.deltas) ≤ 1048576
   other_sum = omega (arith, room_sum false program.deltas, can.limits.globals)
 
-  pub memory_end : stack_address (map function_items ls) program.deltas + stack_size ≤ text_at + memory_limit
-  memory_end = omega (arith, text_sum, fixed_sum, other_sum)
+  pub memory_end : (form : CodeForm) → stack_address (map (function_items form) ls) program.deltas + stack_size ≤ text_at + memory_limit
+  memory_end form = omega (arith, text_sum form, fixed_sum, other_sum)
 
 pub functions_fit : FunctionsFit
-functions_fit program ls can = record {
+functions_fit form program ls can = record {
   functions_fit =
-      subst (λ n. IsTrue (all_of (function_fits n (length program.deltas)) (map function_items ls))) (sym (length-map ls function_items))
-      (all_at (function_fits (length ls) (length program.deltas)) function_items ls (function_fits_there program ls can));
+      subst (λ n. IsTrue (all_of (function_fits n (length program.deltas)) (map (function_items form) ls))) (sym (length-map ls (function_items form)))
+      (all_at (function_fits (length ls) (length program.deltas)) (function_items form) ls (function_fits_there program ls can form));
   globals_fit = each_at (global_fits (length program.deltas)) program.deltas (λ k d e. globals_fit (length program.deltas) d (can.program.globals k d e));
-  has_main = subst (λ n. main_of program < n) (sym (length-map ls function_items)) (main_there program ls can);
-  fits_memory = omega (arith, memory_end program ls can);
+  has_main = subst (λ n. main_of program < n) (sym (length-map ls (function_items form))) (main_there program ls can);
+  fits_memory = omega (arith, memory_end program ls can form);
 }

@@ -14,12 +14,12 @@ module _ {W : Type 0} (named : W → List ℕ) (stands_for : W → List PlainRow
   memory-ends : (c : Option Command) (x : Outside) (ws : List W) → Ends named stands_for text_of c NoMemory (line_of NoMemory) x x ws ws
   memory-ends None x ws = ((inr refl, refl), refl, refl)
   memory-ends (Some accept) x ws = (record { cause = refl; taken = []; rest = prepend-none x.input.bytes }, refl, refl, refl)
-  memory-ends (Some (build source image list workers name)) x ws =
+  memory-ends (Some (build source image list workers name form)) x ws =
       (record { build = λ rules is has. inl (refl, refl); usage = λ none. (inr refl, refl, refl); line = λ other. refl }, (refl, refl))
   memory-ends (Some (generate start functions out)) x ws = (refl, (refl, refl), refl, refl)
   memory-ends (Some (run image steps)) x ws = (record { cause = (refl, refl); files = refl; run = λ files is. tt }, refl, refl)
-  memory-ends (Some (check source log image)) x ws = (record { cause = tt; files = refl }, (refl, refl), refl, refl)
-  memory-ends (Some (session source image list workers)) x ws =
+  memory-ends (Some (check source log image form)) x ws = (record { cause = tt; files = refl }, (refl, refl), refl, refl)
+  memory-ends (Some (session source image list workers form)) x ws =
       (record { session = λ recipe is. inl (record { files = refl; input = refl; output = refl }); usage = λ none. (inr refl, refl) }, refl, refl)
   memory-ends (Some (interpret source bound)) x ws = (record { cause = inl (refl, refl); files = refl }, refl, refl)
 

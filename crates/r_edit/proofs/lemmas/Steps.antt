@@ -1,22 +1,36 @@
 -- Steps keep lists of lambdas, and compose.
-use Rattle.std.specs.Prelude.{slice_set}
-use Rattle.std.proofs.Common.{◌≡◌, ◌≢◌, ℕ, zero, suc, ◌+◌, ◌*◌, List, [], ◌∷◌, Some, slice_get, refl, sym, ap, subst, ◌∙◌, inl, inr, arith}
+use Rattle.std.specs.Prelude.{slice_set, unwrap_or}
+use Rattle.std.proofs.Common.{◌≡◌, ◌≢◌, ℕ, zero, suc, ◌+◌, ◌*◌, true, List, [], ◌∷◌, length, Option, None, Some, slice_get, refl, sym, ap, subst, ◌∙◌, inl, inr, arith}
 use Rattle.std.proofs.Math.Nat.{le_trans}
 use Rattle.std.proofs.lemmas.Option.{same_Some}
 use Rattle.val_core.specs.Answers.{Answer, Returned, Cut, Exited, Undefined, IsUndefined}
 use Rattle.val_core.specs.Within.{Fails, behaviour, Within}
 use Rattle.val_core.proofs.lemmas.Within.{fails-within, within_composes}
-use Rattle.g_graph.specs.Plain.{PlainLambda}
+use Rattle.g_graph.specs.Plain.{RegionTree, PlainLambda}
+use Rattle.g_graph.specs.Ids.{region_ids}
+use Rattle.g_graph.specs.Count.{region_values}
+use Rattle.g_graph.specs.Change.{region_changed, lambda_changed}
+use Rattle.g_graph.specs.Lists.{RegionOps, Calls, NamesGlobal}
+use Rattle.g_graph.specs.Program.{lambda_values}
+use Rattle.g_graph.specs.WellFormed.{region_fits, every_region, well_formed, IsWellFormed}
+use Rattle.g_graph.proofs.lemmas.Complete.{complete_set, program_set}
+use Rattle.g_graph.proofs.lemmas.Nests.{changed_well_formed_within}
+use Rattle.g_graph.proofs.lemmas.Nodes.{KeptWithin}
+use Rattle.g_graph.proofs.lemmas.Numbers.{Numbered}
+use Rattle.g_graph.proofs.lemmas.Ops.{changed_ops}
 use Rattle.g_mean.specs.Data.{Datum}
 use Rattle.g_mean.specs.LessDefined.{Paired, IsLessDefinedDatum}
+use Rattle.g_mean.specs.Edits.{IsEdited, KeepsMeaning}
 use Rattle.g_mean.specs.Replacement.{Replaces, IsKeptWithinTwice}
+use Rattle.g_mean.proofs.lemmas.Exchange.{edits_keep_meaning}
 use Rattle.g_mean.proofs.lemmas.Programs.{programs_keep_meaning}
 use Rattle.g_mean.proofs.lemmas.Replacement.{lambdas_keep_meaning}
 use Rattle.g_mean.proofs.lemmas.LocalRefinement.{pairs-compose}
 use Rattle.g_mean.proofs.lemmas.Edits.{lambdas-itself}
 use Rattle.r_edit.specs.Size.{IsNoLarger}
-use Rattle.r_edit.specs.Steps.{WithinBothWays, AreKeptBothWays, MayStandForAll, KeepsInterface, HasEach, IsApartFrom}
-use Rattle.r_edit.specs.Steps.{ContractsGiveSteps, EditsKeepInterface, NoStepIsAStep, StepsCompose, ListsStandForThemselves, ListsCompose}
+use Rattle.r_edit.proofs.lemmas.Size.{resized_lambdas_are_no_larger}
+use Rattle.r_edit.specs.Steps.{WithinBothWays, AreKeptBothWays, MayStandForAll, KeepsInterface, HasEach, MayStandFor, IsSafeChange, IsApartFrom}
+use Rattle.r_edit.specs.Steps.{SafeChangesAreSteps, EditsKeepInterface, NoStepIsAStep, StepsCompose, ListsStandForThemselves, ListsCompose}
 
 -- ---- runs within each other
 
@@ -125,23 +139,53 @@ no-larger-composes a b c h (inl e) = inl e
 no-larger-composes a b c (inl d) (inr e) = inl (le_trans e d)
 no-larger-composes a b c (inr d) (inr e) = inr (le_trans e d)
 
-pub contracts_give_steps : ContractsGiveSteps
-contracts_give_steps held l k interface values well meaning list program =
-    record {
-      interface = interface;
-      well_formed = well;
-      values = values;
-      lists = λ ls at each. record {
-        functions = λ global f xs globals sound. twice-kept _ _ (meaning.functions ls l.number at global f xs globals sound);
-        program = λ omega i deltas bytes. twice-kept _ _ (meaning.program ls l.number at omega i deltas bytes);
-        complete = λ c. list ls l.number at c;
-        image = λ omega p. program omega ls l.number at p;
-      };
-    }
-
 pub edits_keep_interface : EditsKeepInterface
 edits_keep_interface here l k edited =
     record { number = sym edited.number; params = sym edited.params; objects = sym edited.objects }
+
+module _ (here : RegionTree → Option RegionTree) (l k : PlainLambda) (well : IsWellFormed l) (now : IsWellFormed k) (edited : IsEdited here l k) (safe : IsSafeChange here l) where
+  meaning : KeepsMeaning l k
+  meaning = edits_keep_meaning here l k well edited safe.replaces
+
+  calls : (ls : List PlainLambda) → RegionOps (Calls ls) l.body → RegionOps (Calls ls) k.body
+  calls ls h = subst (RegionOps (Calls ls)) (sym edited.body) (changed_ops (Calls ls) here (safe.calls ls) l h)
+
+  names : (globals : ℕ) → RegionOps (NamesGlobal globals) l.body → RegionOps (NamesGlobal globals) k.body
+  names globals h = subst (RegionOps (NamesGlobal globals)) (sym edited.body) (changed_ops (NamesGlobal globals) here (safe.names globals) l h)
+
+  pub changed_stands_for : (held : List PlainLambda) → MayStandFor held l k
+  changed_stands_for held =
+      record {
+        interface = edits_keep_interface here l k edited;
+        well_formed = now;
+        values = subst (λ r. IsNoLarger (lambda_values l) (region_values r)) (sym edited.body) (resized_lambdas_are_no_larger here l safe.resized);
+        lists = λ ls at each. record {
+          functions = λ global f xs globals sound. twice-kept _ _ (meaning.functions ls l.number at global f xs globals sound);
+          program = λ omega i deltas bytes. twice-kept _ _ (meaning.program ls l.number at omega i deltas bytes);
+          complete = λ c. complete_set l k now (sym edited.number) (sym edited.params) calls ls l.number at c;
+          image = λ omega p. program_set l k now (sym edited.number) (sym edited.params) calls names omega ls l.number at p;
+        };
+      }
+
+pub safe_changes_are_steps : SafeChangesAreSteps
+safe_changes_are_steps here l k well now edited safe held = changed_stands_for here l k well now edited safe held
+
+-- A lambda stays well formed where no changed region has numbers but its own.
+pub kept_well_formed : (here : RegionTree → Option RegionTree) (l : PlainLambda) →
+    ((r s : RegionTree) → here r ≡ Some s → every_region (region_fits (length l.objects)) r ≡ true → Numbered l.next (region_ids r) → KeptWithin (length l.objects) r s) →
+    IsWellFormed l → IsWellFormed (lambda_changed here l)
+kept_well_formed here l keeps w = by_change (region_changed here l.body) refl
+  where
+    by_change : (o : Option RegionTree) → region_changed here l.body ≡ o → well_formed (record l { body = unwrap_or o l.body }) ≡ true
+    by_change None e = w
+    by_change (Some s) e =
+        changed_well_formed_within here l s (record { kept = λ r t q fits numbers. (keeps r t q fits numbers).kept })
+        (λ r t q fits numbers. (keeps r t q fits numbers).fewer) e w
+
+-- A safe change is a step where the lambda stays well formed, with the same next number.
+pub changed_is_a_step : (here : RegionTree → Option RegionTree) (l : PlainLambda) → IsWellFormed l → IsWellFormed (lambda_changed here l) → IsSafeChange here l → (held : List PlainLambda) →
+    MayStandFor held l (lambda_changed here l)
+changed_is_a_step here l well stays safe held = changed_stands_for here l (lambda_changed here l) well stays (record { number = refl; params = refl; objects = refl; body = refl }) safe held
 
 pub no_step_is_a_step : NoStepIsAStep
 no_step_is_a_step held l well =

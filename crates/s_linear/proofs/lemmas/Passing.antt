@@ -1,5 +1,5 @@
 -- A test of lines holds of all lines of a code where it holds of those that its steps make.
-use Rattle.std.proofs.Common.{◌≡◌, ℕ, suc, ◌+◌, Bool, true, List, [], ◌∷◌, ◌++◌, map, refl, ◌∙◌}
+use Rattle.std.proofs.Common.{◌≡◌, ℕ, suc, ◌+◌, ◌<◌, Bool, true, List, [], ◌∷◌, ◌++◌, map, length, refl, ap, ◌∙◌, arith}
 use Rattle.std.proofs.lemmas.Bool.{and_from, and_parts}
 use Rattle.g_graph.specs.WellFormed.{all_of}
 use Rattle.g_graph.proofs.lemmas.Unique.{all_of_append}
@@ -7,12 +7,18 @@ use Rattle.s_linear.specs.Linear.{Step, plain, choice, loop, Code, no_steps, ste
 use Rattle.s_linear.specs.Lines.{Line, enter, leave, done, branch_not_zero, branch_zero, branch_equal, jump, label, counted, step_labels, code_labels, last_from, others_from, LinesOf, branches, last_lines, labelled, before_last, choice_lines, step_lines, code_lines, codes_lines, lines}
 use Rattle.val_core.specs.Numbers.{numbers_from}
 
--- the lines that steps make pass, whatever their labels
+pub length_codes : (last others : ℕ) (cs : Codes) → length (codes_lines last others cs) ≡ counted cs
+length_codes last others no_codes = refl
+length_codes last others (code_then k no_codes) = refl
+length_codes last others (code_then k (code_then j ks)) = ap suc (length_codes last (others + code_labels k) (code_then j ks))
+
+-- The lines that steps make pass, whatever their labels. A choice of one code has no branch.
 module _ (test : Line → Bool) where
   abbrev mutual
     pub StepPasses : Step → Type 0
     StepPasses (plain i) = test (done i) ≡ true
-    StepPasses (choice p cs) = ((r l : ℕ) → test (branch_equal p r l) ≡ true) × ((l : ℕ) → test (branch_not_zero p l) ≡ true) × CodesPass cs
+    StepPasses (choice p cs) =
+        (1 < counted cs → ((r l : ℕ) → test (branch_equal p r l) ≡ true) × ((l : ℕ) → test (branch_not_zero p l) ≡ true)) × CodesPass cs
     StepPasses (loop moves body p back) =
         (all_of test (map done moves) ≡ true) × CodePasses body × ((l : ℕ) → test (branch_zero p l) ≡ true) × (all_of test (map done back) ≡ true)
 
@@ -31,10 +37,11 @@ module _ (test : Line → Bool) (jumps : (l : ℕ) → test (jump l) ≡ true) (
   append_passes : (xs ys : List Line) → Pass xs → Pass ys → Pass (xs ++ ys)
   append_passes xs ys a b = all_of_append test xs ys ∙ and_from _ _ a b
 
-  branches_pass : (p r first : ℕ) (cs : List LinesOf) → ((r l : ℕ) → test (branch_equal p r l) ≡ true) → Pass (branches p r first cs)
+  branches_pass : (p r first : ℕ) (cs : List LinesOf) → (1 < length cs → (r l : ℕ) → test (branch_equal p r l) ≡ true) → Pass (branches p r first cs)
   branches_pass p r first [] h = refl
   branches_pass p r first (c ∷ []) h = refl
-  branches_pass p r first (c ∷ d ∷ cs) h = and_from _ _ (h r (first + r)) (branches_pass p (suc r) first (d ∷ cs) h)
+  branches_pass p r first (c ∷ d ∷ cs) h =
+      and_from _ _ (h (omega arith) r (first + r)) (branches_pass p (suc r) first (d ∷ cs) (λ two. h (omega arith)))
 
   abbrev AllPass : List LinesOf → Type 0
   AllPass cs = all_of (λ c. all_of test c) cs ≡ true
@@ -58,7 +65,7 @@ module _ (test : Line → Bool) (jumps : (l : ℕ) → test (jump l) ≡ true) (
       (and_from _ _ (labels (first + r)) (first_passes c (d ∷ cs) h))
       (labelled_passes (suc r) first end (d ∷ cs) (rest_passes c (d ∷ cs) h)))
 
-  more_pass : (p first : ℕ) (cs : List LinesOf) → ((r l : ℕ) → test (branch_equal p r l) ≡ true) → AllPass cs →
+  more_pass : (p first : ℕ) (cs : List LinesOf) → (1 < length cs → (r l : ℕ) → test (branch_equal p r l) ≡ true) → AllPass cs →
       Pass (branches p 0 first cs ++ last_lines cs ++ labelled 0 first (first + before_last cs) cs ++ label (first + before_last cs) ∷ [])
   more_pass p first cs e h =
       let end : ℕ = first + before_last cs in
@@ -67,24 +74,26 @@ module _ (test : Line → Bool) (jumps : (l : ℕ) → test (jump l) ≡ true) (
       (append_passes (branches p 0 first cs) (last_lines cs) (branches_pass p 0 first cs e) (last_passes cs h)) (labelled_passes 0 first end cs h))
       (and_from _ _ (labels end) refl)
 
-  choice_passes : (p first : ℕ) (cs : List LinesOf) → ((r l : ℕ) → test (branch_equal p r l) ≡ true) → ((l : ℕ) → test (branch_not_zero p l) ≡ true) → AllPass cs →
+  choice_passes : (p first : ℕ) (cs : List LinesOf)
+      → (1 < length cs → ((r l : ℕ) → test (branch_equal p r l) ≡ true) × ((l : ℕ) → test (branch_not_zero p l) ≡ true)) → AllPass cs →
       Pass (choice_lines p first cs)
-  choice_passes p first [] e z h = refl
-  choice_passes p first (c ∷ []) e z h = more_pass p first (c ∷ []) e h
-  choice_passes p first (c ∷ d ∷ []) e z h =
-      and_from _ _ (z first)
+  choice_passes p first [] b h = refl
+  choice_passes p first (c ∷ []) b h = more_pass p first (c ∷ []) (λ two. (b two).0) h
+  choice_passes p first (c ∷ d ∷ []) b h =
+      and_from _ _ ((b (omega arith)).1 first)
       (append_passes (c ++ jump (suc first) ∷ label first ∷ d) (label (suc first) ∷ [])
       (append_passes c (jump (suc first) ∷ label first ∷ d) (first_passes c (d ∷ []) h)
       (and_from _ _ (jumps (suc first)) (and_from _ _ (labels first) (first_passes d [] (rest_passes c (d ∷ []) h)))))
       (and_from _ _ (labels (suc first)) refl))
-  choice_passes p first (c ∷ d ∷ f ∷ cs) e z h = more_pass p first (c ∷ d ∷ f ∷ cs) e h
+  choice_passes p first (c ∷ d ∷ f ∷ cs) b h = more_pass p first (c ∷ d ∷ f ∷ cs) (λ two. (b two).0) h
 
   mutual
     step_passes : (first : ℕ) (s : Step) → StepPasses test s → Pass (step_lines first s)
     step_passes first (plain i) h = and_from _ _ h refl
     step_passes first (choice p cs) h =
-        choice_passes p first (codes_lines (last_from (first + counted cs) cs) (others_from (first + counted cs) cs) cs) h.0 h.1
-        (codes_pass (last_from (first + counted cs) cs) (others_from (first + counted cs) cs) cs h.2)
+        let last = last_from (first + counted cs) cs in
+        let others = others_from (first + counted cs) cs in
+        choice_passes p first (codes_lines last others cs) (λ two. h.0 (omega (arith, two, length_codes last others cs))) (codes_pass last others cs h.1)
     step_passes first (loop moves body p back) h =
         append_passes ((map done moves ++ label first ∷ code_lines (2 + first) body) ++ branch_zero p (suc first) ∷ map done back) (jump first ∷ label (suc first) ∷ [])
         (append_passes (map done moves ++ label first ∷ code_lines (2 + first) body) (branch_zero p (suc first) ∷ map done back)

@@ -1,5 +1,5 @@
 -- Lemmas on the items that lines select: labels, and what items ask.
-use Rattle.std.proofs.Common.{◌≡◌, ℕ, ◌+◌, ◌-◌, ◌*◌, ◌<◌, ◌==◌, slice_index, refl, sym, ap, ◌∙◌, Bool, true, false, List, [], ◌∷◌, ◌++◌, if◌then◌else◌, arith}
+use Rattle.std.proofs.Common.{◌≡◌, ℕ, ◌+◌, ◌-◌, ◌*◌, ◌<◌, ◌≤◌, ◌==◌, slice_index, refl, sym, ap, ◌∙◌, Bool, true, false, List, [], ◌∷◌, ◌++◌, if◌then◌else◌, arith}
 use Rattle.std.proofs.lemmas.Bool.{and_from, and_parts, ltb-true, lt-ltb}
 use Rattle.std.specs.Prelude.{◌&&◌, nat_lt}
 use Rattle.g_graph.specs.Plain.{PlainObject}
@@ -22,7 +22,7 @@ use Rattle.rv_layout.specs.Items.{marks}
 use Rattle.rv_layout.specs.Conditions.{is_marked_once, item_fits}
 use Rattle.s_select.specs.declared.location.Location.TheVariants.{Register, Near, Far}
 use Rattle.s_select.specs.Operands.{place_register, word_at, load_immediate, get, put, in_of, load_in, out_of, store_out}
-use Rattle.s_select.specs.Templates.{words, place_of, take_frame, give_frame, put_params, get_arguments, binary_code, unary_code, load_instr, store_instr, with_two, with_one, with_none, move_code, clear_code, size_of, instr_items, line_items, items_of}
+use Rattle.s_select.specs.Templates.{words, place_of, take_frame, give_frame, put_params, get_arguments, binary_code, unary_code, load_instr, store_instr, with_two, with_one, with_none, move_between, clear_code, size_of, instr_items, line_items, items_of}
 use Rattle.s_select.specs.Laws.{SelectedLabelsAreMarked, SelectedItemsFit}
 
 -- ---- tests that each instruction passes
@@ -62,7 +62,7 @@ module _ (test : Item → Bool) (word : (i : Instr) → test (Word i) ≡ true) 
       words_pass (load_in t0 (place_of p a) ++ load_in t1 (place_of p v) ++ store_instr width (in_of (place_of p a) t0) (in_of (place_of p v) t1) ∷ [])
   instr_passes p os (linear.clear n) h = words_pass (clear_code (object_at p.count os n) (size_of os n))
   instr_passes p os (linear.equal_pointers t a b) h = words_pass (with_two (place_of p t) (place_of p a) (place_of p b) (binary_code op.Eq))
-  instr_passes p os (linear.move t a) h = words_pass (move_code (place_of p t) (place_of p a))
+  instr_passes p os (linear.move t a) h = words_pass (move_between p.temporaries (slice_index p.of t) (slice_index p.of a))
   instr_passes p os (linear.call f t xs) h =
       after_words (get_arguments p a0 xs) (Call f ∷ words (put (place_of p t) a0)) (before_words (Call f) (put (place_of p t) a0) h)
   instr_passes p os (linear.put a) h = after_words (get a0 (place_of p a)) (Stub 0 ∷ []) (one_passes (Stub 0) (stubs 0 (omega arith)))
@@ -233,7 +233,7 @@ selected_labels_are_marked once go f p os =
 fit_stub : (fs gs s : ℕ) → s < 2 → item_fits fs gs (Stub s) ≡ true
 fit_stub fs gs s h = and_from (nat_lt s 2) true (lt-ltb s 2 h) refl
 
-place_below : (q : ℕ) (b : Bool) → q < 11 → nat_lt (if b then 9 else q + 17) 32 ≡ true
+place_below : (q : ℕ) (b : Bool) → q < 15 → nat_lt (if b then 9 else q + 17) 32 ≡ true
 place_below q true h = refl
 place_below q false h = lt-ltb (q + 17) 32 (omega arith)
 
@@ -241,52 +241,53 @@ word_below : (offset : ℕ) (b : Bool) → nat_lt (out_of (if b then Near offset
 word_below offset true = refl
 word_below offset false = refl
 
-location_below : (q : ℕ) (b : Bool) → b ≡ nat_lt q 11 → nat_lt (out_of (if b then Register (place_register q) else word_at (4 * (q - 11)))) 32 ≡ true
-location_below q true e = place_below q (q == 0) (ltb-true q 11 (sym e))
-location_below q false e = word_below (4 * (q - 11)) (nat_lt (4 * (q - 11)) 2048)
+location_below : (t q : ℕ) (b : Bool) → t ≤ 4 → b ≡ nat_lt q (11 + t)
+    → nat_lt (out_of (if b then Register (place_register q) else word_at (4 * (q - (11 + t))))) 32 ≡ true
+location_below t q true few e = let below = ltb-true q (11 + t) (sym e) in place_below q (q == 0) (omega (arith, below, few))
+location_below t q false few e = word_below (4 * (q - (11 + t))) (nat_lt (4 * (q - (11 + t))) 2048)
 
 -- a result is written to a register
-register_below : (p : PlainPlaces) (t : ℕ) → nat_lt (out_of (place_of p t)) 32 ≡ true
-register_below p t = location_below (slice_index p.of t) (nat_lt (slice_index p.of t) 11) refl
+register_below : (p : PlainPlaces) (t : ℕ) → p.temporaries ≤ 4 → nat_lt (out_of (place_of p t)) 32 ≡ true
+register_below p t few = location_below p.temporaries (slice_index p.of t) (nat_lt (slice_index p.of t) (11 + p.temporaries)) few refl
 
 fit_call : (b : Bool) → b ≡ true → (((b && true) && true) && true) ≡ true
 fit_call b h = rw h refl
 
-fit_instr : (fs gs : ℕ) (p : PlainPlaces) (i : linear.Instr) → has_its_callee fs i ≡ true → has_its_global gs i ≡ true
+fit_instr : (fs gs : ℕ) (p : PlainPlaces) (i : linear.Instr) → p.temporaries ≤ 4 → has_its_callee fs i ≡ true → has_its_global gs i ≡ true
     → InstrPasses (item_fits fs gs) (λ i. refl) (fit_stub fs gs) p i
-fit_instr fs gs p (linear.call f t xs) c g = fit_call (nat_lt f fs) c
-fit_instr fs gs p (linear.global_address t k) c g =
-    and_from (nat_lt k gs && true) (nat_lt (out_of (place_of p t)) 32) (and_from (nat_lt k gs) true g refl) (register_below p t)
-fit_instr fs gs p (linear.const t w) c g = tt
-fit_instr fs gs p (linear.undef t) c g = tt
-fit_instr fs gs p (linear.object_address t n) c g = tt
-fit_instr fs gs p (linear.binary o t a b) c g = tt
-fit_instr fs gs p (linear.unary o t a) c g = tt
-fit_instr fs gs p (linear.load width t a) c g = tt
-fit_instr fs gs p (linear.store width a v) c g = tt
-fit_instr fs gs p (linear.clear n) c g = tt
-fit_instr fs gs p (linear.equal_pointers t a b) c g = tt
-fit_instr fs gs p (linear.move t a) c g = tt
-fit_instr fs gs p (linear.put a) c g = tt
-fit_instr fs gs p (linear.get t) c g = tt
-fit_instr fs gs p (linear.exit a) c g = tt
+fit_instr fs gs p (linear.call f t xs) few c g = fit_call (nat_lt f fs) c
+fit_instr fs gs p (linear.global_address t k) few c g =
+    and_from (nat_lt k gs && true) (nat_lt (out_of (place_of p t)) 32) (and_from (nat_lt k gs) true g refl) (register_below p t few)
+fit_instr fs gs p (linear.const t w) few c g = tt
+fit_instr fs gs p (linear.undef t) few c g = tt
+fit_instr fs gs p (linear.object_address t n) few c g = tt
+fit_instr fs gs p (linear.binary o t a b) few c g = tt
+fit_instr fs gs p (linear.unary o t a) few c g = tt
+fit_instr fs gs p (linear.load width t a) few c g = tt
+fit_instr fs gs p (linear.store width a v) few c g = tt
+fit_instr fs gs p (linear.clear n) few c g = tt
+fit_instr fs gs p (linear.equal_pointers t a b) few c g = tt
+fit_instr fs gs p (linear.move t a) few c g = tt
+fit_instr fs gs p (linear.put a) few c g = tt
+fit_instr fs gs p (linear.get t) few c g = tt
+fit_instr fs gs p (linear.exit a) few c g = tt
 
-fit_passes : (fs gs : ℕ) (p : PlainPlaces) (line : Line) → does (has_its_callee fs) line ≡ true → does (has_its_global gs) line ≡ true
+fit_passes : (fs gs : ℕ) (p : PlainPlaces) (line : Line) → p.temporaries ≤ 4 → does (has_its_callee fs) line ≡ true → does (has_its_global gs) line ≡ true
     → LinePasses (item_fits fs gs) (λ i. refl) (fit_stub fs gs) p line
-fit_passes fs gs p (enter xs) c g = tt
-fit_passes fs gs p (leave v) c g = tt
-fit_passes fs gs p (done i) c g = fit_instr fs gs p i c g
-fit_passes fs gs p (branch_not_zero x l) c g = refl
-fit_passes fs gs p (branch_zero x l) c g = refl
-fit_passes fs gs p (branch_equal x n l) c g = refl
-fit_passes fs gs p (jump l) c g = refl
-fit_passes fs gs p (label l) c g = refl
+fit_passes fs gs p (enter xs) few c g = tt
+fit_passes fs gs p (leave v) few c g = tt
+fit_passes fs gs p (done i) few c g = fit_instr fs gs p i few c g
+fit_passes fs gs p (branch_not_zero x l) few c g = refl
+fit_passes fs gs p (branch_zero x l) few c g = refl
+fit_passes fs gs p (branch_equal x n l) few c g = refl
+fit_passes fs gs p (jump l) few c g = refl
+fit_passes fs gs p (label l) few c g = refl
 
 pub selected_items_fit : SelectedItemsFit
-selected_items_fit fs gs p os [] c g = refl
-selected_items_fit fs gs p os (line ∷ ls) c g =
+selected_items_fit fs gs p os [] few c g = refl
+selected_items_fit fs gs p os (line ∷ ls) few c g =
     let callees = and_parts (does (has_its_callee fs) line) (all_of (does (has_its_callee fs)) ls) c in
     let globals = and_parts (does (has_its_global gs) line) (all_of (does (has_its_global gs)) ls) g in
     append_passes (item_fits fs gs) (λ i. refl) (fit_stub fs gs) (line_items p os line) (items_of p os ls)
-    (line_passes (item_fits fs gs) (λ i. refl) (fit_stub fs gs) p os line (fit_passes fs gs p line callees.0 globals.0))
-    (selected_items_fit fs gs p os ls callees.1 globals.1)
+    (line_passes (item_fits fs gs) (λ i. refl) (fit_stub fs gs) p os line (fit_passes fs gs p line few callees.0 globals.0))
+    (selected_items_fit fs gs p os ls few callees.1 globals.1)

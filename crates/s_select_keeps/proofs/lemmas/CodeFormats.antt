@@ -6,12 +6,12 @@ use Rattle.s_linear.specs.Frame.{PlainPlaces}
 use Rattle.s_linear.specs.Linear.{Instr, Step, plain, choice, loop, Code, no_steps, step_then, Codes, no_codes, code_then, LinearFunction}
 use Rattle.s_linear.specs.Lines.{Line, leave, done, branch_not_zero, branch_zero, jump, label, does, counted, code_labels, step_labels, branches, last_lines, labelled, before_last, choice_lines, step_lines, code_lines, codes_lines, last_from, others_from, lines}
 use Rattle.val_core.specs.Numbers.{numbers_from}
+use Rattle.s_linear.proofs.lemmas.Passing.{length_codes}
 use Rattle.s_select.specs.Conditions.{has_few_arguments, has_few_params}
 use Rattle.s_select.specs.Templates.{items_of, line_items}
 use Rattle.s_select_keeps.specs.Codes.{InstrsFit, StepFits, CodeFits, CodesFit}
 use Rattle.s_select_keeps.specs.Formats.{WordsFit, IsInRange, NumbersFit}
 use Rattle.s_select_keeps.specs.Functions.{InstrCanRun, FunctionCanRun}
-use Rattle.s_select_keeps.proofs.Codes.{length-codes}
 use Rattle.s_select_keeps.proofs.Formats.{items-append}
 use Rattle.s_select_keeps.proofs.LineFormats.{templates_fit}
 
@@ -84,7 +84,7 @@ module _ (p : PlainPlaces) (objects globals : ℕ) where
     step-fit (choice x cs) first h =
         let later = first + counted cs in
         choice-fit x first (codes_lines (last_from later cs) (others_from later cs) cs) (codes-fit cs (last_from later cs) (others_from later cs) h.2)
-        (let few = h.1 in let same = length-codes (last_from later cs) (others_from later cs) cs in omega (arith, few, same))
+        (let few = h.1 in let same = length_codes (last_from later cs) (others_from later cs) cs in omega (arith, few, same))
     step-fit (loop moves body x back) first h =
         lines-append ((map done moves ++ (label first ∷ code_lines (2 + first) body)) ++ (branch_zero x (suc first) ∷ map done back))
         (jump first ∷ label (suc first) ∷ [])

@@ -17,7 +17,7 @@ use Rattle.rv_layout.proofs.lemmas.Addresses.{length-functions_from}
 use Rattle.rv_layout.proofs.lemmas.Items.{items_size-aligned}
 use Rattle.s_linear.specs.Linear.{LinearFunction}
 use Rattle.s_select_keeps.specs.Formats.{EachFits}
-use Rattle.s_select_keeps.specs.Functions.{FunctionStands, FunctionCanRun, places_of}
+use Rattle.s_select_keeps.specs.Functions.{FunctionStands, FunctionCanRun, Layout}
 use Rattle.s_select_keeps.specs.LaidFunctions.{function_items, loaded_program, LaidProgramCanRun, LaidProgramStarts}
 use Rattle.s_select_keeps.specs.Programs.{ProgramStands, text_loaded}
 use Rattle.s_select_keeps.specs.Starts.{main_returns}
@@ -76,59 +76,59 @@ data_may_be_written i x sound from to = ap (λ n. has_flag n to_write) (data-the
 
 -- ---- the whole program
 
-each-fits : (globals : ℕ) (fs : List LinearFunction) → ((k : ℕ) (f : LinearFunction) → slice_get fs k ≡ Some f → FunctionCanRun globals (places_of f) f)
-    → EachFits (map function_items fs)
-each-fits globals [] can = tt
-each-fits globals (f ∷ fs) can = (function-fits globals (places_of f) f (can 0 f refl), each-fits globals fs (λ k g there. can (suc k) g there))
+each-fits : (places : Layout) (globals : ℕ) (fs : List LinearFunction) → ((k : ℕ) (f : LinearFunction) → slice_get fs k ≡ Some f → FunctionCanRun globals (places f) f)
+    → EachFits (map (function_items places) fs)
+each-fits places globals [] can = tt
+each-fits places globals (f ∷ fs) can = (function-fits globals (places f) f (can 0 f refl), each-fits places globals fs (λ k g there. can (suc k) g there))
 
 pub laid_program_can_run : LaidProgramCanRun
-laid_program_can_run fs ds main global can sound runs marked = record {
+laid_program_can_run places fs ds main global can sound runs marked = record {
   functions = function;
   entries = entry;
   stubs = stands.stubs;
-  readable = data_may_be_read (laid_out (map function_items fs) ds main) (addresses_of (map function_items fs) ds).data_at sound (omega arith) (omega arith);
-  writable = data_may_be_written (laid_out (map function_items fs) ds main) (addresses_of (map function_items fs) ds).data_at sound (omega arith) (omega arith);
+  readable = data_may_be_read (laid_out (map (function_items places) fs) ds main) (addresses_of (map (function_items places) fs) ds).data_at sound (omega arith) (omega arith);
+  writable = data_may_be_written (laid_out (map (function_items places) fs) ds main) (addresses_of (map (function_items places) fs) ds).data_at sound (omega arith) (omega arith);
 }
   where
-    stands : ProgramStands (map function_items fs) ds main
-    stands = laid_program_stands (map function_items fs) ds main can (each-fits (length (addresses_of (map function_items fs) ds).globals) fs runs) sound
+    stands : ProgramStands (map (function_items places) fs) ds main
+    stands = laid_program_stands (map (function_items places) fs) ds main can (each-fits places (length (addresses_of (map (function_items places) fs) ds).globals) fs runs) sound
 
     function : (k : ℕ) (f : LinearFunction) → slice_get fs k ≡ Some f
-        → FunctionStands (loaded_program fs ds main global) (slice_index (addresses_of (map function_items fs) ds).functions k) (places_of f) f
+        → FunctionStands (loaded_program places fs ds main global) (slice_index (addresses_of (map (function_items places) fs) ds).functions k) (places f) f
     function k f there =
-        let at = slice_index (functions_from functions_at (map function_items fs)) k in
-        let found : slice_get (map function_items fs) k ≡ Some (function_items f) = slice_get-map function_items fs k ∙ ap (option_map function_items) there in
-        let code = function-there (text_loaded (map function_items fs) ds main) (addresses_of (map function_items fs) ds) (map function_items fs)
-        (functions_from functions_at (map function_items fs)) k
-        (function_items f) stands.functions found in
-        let end = ends-within (map function_items fs) functions_at k (function_items f) found in
+        let at = slice_index (functions_from functions_at (map (function_items places) fs)) k in
+        let found : slice_get (map (function_items places) fs) k ≡ Some (function_items places f) = slice_get-map (function_items places) fs k ∙ ap (option_map (function_items places)) there in
+        let code = function-there (text_loaded (map (function_items places) fs) ds main) (addresses_of (map (function_items places) fs) ds) (map (function_items places) fs)
+        (functions_from functions_at (map (function_items places) fs)) k
+        (function_items places f) stands.functions found in
+        let end = ends-within (map (function_items places) fs) functions_at k (function_items places f) found in
         let memory = can.fits_memory in
         record {
-          labels = λ l. label_at l at (function_items f);
-          end = at + items_size (function_items f);
+          labels = λ l. label_at l at (function_items places f);
+          end = at + items_size (function_items places f);
           there =
-              items_are_resolved (text_loaded (map function_items fs) ds main) (addresses_of (map function_items fs) ds) at (at + items_size (function_items f))
-              (function_items f) (marked k f there) code;
+              items_are_resolved (text_loaded (map (function_items places) fs) ds main) (addresses_of (map (function_items places) fs) ds) at (at + items_size (function_items places f))
+              (function_items places f) (marked k f there) code;
           low = omega (arith, end, memory);
           can = runs k f there;
         }
 
-    entry : (k : ℕ) → (slice_index (functions_from functions_at (map function_items fs)) k < 2 ^ 32)
-        × (slice_index (functions_from functions_at (map function_items fs)) k % 2 ≡ 0)
+    entry : (k : ℕ) → (slice_index (functions_from functions_at (map (function_items places) fs)) k < 2 ^ 32)
+        × (slice_index (functions_from functions_at (map (function_items places) fs)) k % 2 ≡ 0)
     entry k = (
-      by (slice_get_cases (map function_items fs) k).1,
-      let even = starts-even (map function_items fs) functions_at k refl in omega (arith, even),
+      by (slice_get_cases (map (function_items places) fs) k).1,
+      let even = starts-even (map (function_items places) fs) functions_at k refl in omega (arith, even),
     )
       where
-        by : ((x : List Item) × (k < length (map function_items fs)) × (slice_get (map function_items fs) k ≡ Some x) × (get_or (map function_items fs) k x ≡ x))
-            ⊎ ((length (map function_items fs) ≤ k) × (slice_get (map function_items fs) k ≡ None))
-            → slice_index (functions_from functions_at (map function_items fs)) k < 2 ^ 32
-        by (inl h) = let end = ends-within (map function_items fs) functions_at k h.0 h.2 in let memory = can.fits_memory in omega (arith, end, memory)
+        by : ((x : List Item) × (k < length (map (function_items places) fs)) × (slice_get (map (function_items places) fs) k ≡ Some x) × (get_or (map (function_items places) fs) k x ≡ x))
+            ⊎ ((length (map (function_items places) fs) ≤ k) × (slice_get (map (function_items places) fs) k ≡ None))
+            → slice_index (functions_from functions_at (map (function_items places) fs)) k < 2 ^ 32
+        by (inl h) = let end = ends-within (map (function_items places) fs) functions_at k h.0 h.2 in let memory = can.fits_memory in omega (arith, end, memory)
         by (inr h) =
             let high = h.0 in
-            let same = length-functions_from functions_at (map function_items fs) in
-            let zero_is : slice_index (functions_from functions_at (map function_items fs)) k ≡ 0 =
-            get_or_past (functions_from functions_at (map function_items fs)) k 0 (omega (arith, high, same)) in
+            let same = length-functions_from functions_at (map (function_items places) fs) in
+            let zero_is : slice_index (functions_from functions_at (map (function_items places) fs)) k ≡ 0 =
+            get_or_past (functions_from functions_at (map (function_items places) fs)) k 0 (omega (arith, high, same)) in
             omega (arith, zero_is)
 
 -- ---- its start
@@ -149,25 +149,25 @@ placed-low i placed =
 
 pub laid_program_starts : LaidProgramStarts
 unfolding executable_for
-laid_program_starts fs ds main global blocks bases input can placed sound runs shows has bytes = record {
+laid_program_starts places fs ds main global blocks bases input can placed sound runs shows has bytes = record {
   has_text = λ a fixed. refl;
   pc = refl;
   there = stands.start;
-  low = placed-low (laid_out (map function_items fs) ds main) placed;
+  low = placed-low (laid_out (map (function_items places) fs) ds main) placed;
   aligned = omega arith;
-  after = by (slice_get_cases (map function_items fs) main).1;
-  readable = λ a from to. data_may_be_read (laid_out (map function_items fs) ds main) a sound (omega (arith, from)) to;
-  writable = λ a from to. data_may_be_written (laid_out (map function_items fs) ds main) a sound (omega (arith, from)) to;
+  after = by (slice_get_cases (map (function_items places) fs) main).1;
+  readable = λ a from to. data_may_be_read (laid_out (map (function_items places) fs) ds main) a sound (omega (arith, from)) to;
+  writable = λ a from to. data_may_be_written (laid_out (map (function_items places) fs) ds main) a sound (omega (arith, from)) to;
   memory = shows;
   blocks_are = has;
   bytes = bytes;
 }
   where
-    stands : ProgramStands (map function_items fs) ds main
-    stands = laid_program_stands (map function_items fs) ds main can (each-fits (length (addresses_of (map function_items fs) ds).globals) fs runs) sound
+    stands : ProgramStands (map (function_items places) fs) ds main
+    stands = laid_program_stands (map (function_items places) fs) ds main can (each-fits places (length (addresses_of (map (function_items places) fs) ds).globals) fs runs) sound
 
-    by : ((x : List Item) × (main < length (map function_items fs)) × (slice_get (map function_items fs) main ≡ Some x) × (get_or (map function_items fs) main x ≡ x))
-        ⊎ ((length (map function_items fs) ≤ main) × (slice_get (map function_items fs) main ≡ None))
-        → main_returns ≤ slice_index (functions_from functions_at (map function_items fs)) main
-    by (inl h) = let after = starts-after (map function_items fs) functions_at main h.0 h.2 in omega (arith, after)
+    by : ((x : List Item) × (main < length (map (function_items places) fs)) × (slice_get (map (function_items places) fs) main ≡ Some x) × (get_or (map (function_items places) fs) main x ≡ x))
+        ⊎ ((length (map (function_items places) fs) ≤ main) × (slice_get (map (function_items places) fs) main ≡ None))
+        → main_returns ≤ slice_index (functions_from functions_at (map (function_items places) fs)) main
+    by (inl h) = let after = starts-after (map (function_items places) fs) functions_at main h.0 h.2 in omega (arith, after)
     by (inr h) = let past = h.0 in let inside = can.has_main in absurd (omega (arith, past, inside))

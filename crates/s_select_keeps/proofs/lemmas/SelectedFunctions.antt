@@ -15,6 +15,7 @@ use Rattle.s_linear.specs.Linear.{Instr, const, Step, plain, choice, loop, Code,
 use Rattle.s_linear.specs.Lines.{Line, enter, leave, done, branch_not_zero, branch_zero, branch_equal, jump, label, does, counted, code_labels, step_labels, branches, last_lines, labelled, before_last, choice_lines, step_lines, code_lines, codes_lines, last_from, others_from, lines}
 use Rattle.val_core.specs.Numbers.{numbers_from}
 use Rattle.s_linear.specs.Operands.{has_its_object, has_its_global}
+use Rattle.s_linear.proofs.lemmas.Passing.{length_codes}
 use Rattle.s_select.specs.Conditions.{has_place, names_have_places, has_few_arguments, has_few_params}
 use Rattle.s_select.specs.Operands.{load_immediate, in_of, load_in}
 use Rattle.s_select.specs.Templates.{words, place_of, items_of, line_items}
@@ -22,7 +23,6 @@ use Rattle.s_select_keeps.specs.Codes.{InstrsFit, StepFits, CodeFits, CodesFit}
 use Rattle.s_select_keeps.specs.Formats.{NumbersFit}
 use Rattle.s_select_keeps.specs.Functions.{InstrCanRun}
 use Rattle.s_select_keeps.specs.LaidFunctions.{is_word_constant, SelectedCanRun}
-use Rattle.s_select_keeps.proofs.Codes.{length-codes}
 
 -- what the lines are asked
 record LineCan (p : PlainPlaces) (objects globals : ℕ) (line : Line) : Type 0 where
@@ -167,7 +167,7 @@ module _ (p : PlainPlaces) (objects globals : ℕ) where
       step-can (choice x cs) first h =
           let later = first + counted cs in
           let ls = codes_lines (last_from later cs) (others_from later cs) cs in
-          let same = length-codes (last_from later cs) (others_from later cs) cs in
+          let same = length_codes (last_from later cs) (others_from later cs) cs in
           let few = few-codes x first ls h in (
             λ two. predicate-can x first ls h.0 (omega (arith, two, same)),
             omega (arith, few, same),

@@ -58,7 +58,7 @@ module _ (test : Instr → Bool) (p : Op → ℕ → Type 0) (moved : (t s : ℕ
     node_passes args base names next (node id Get inputs rs) h = own Get next (name_of args base names) inputs h.0
     node_passes args base names next (node id Gamma [] rs) h = unknown next
     node_passes args base names next (node id Gamma (o ∷ entries) rs) h =
-        ((λ r l. refl), (λ l. refl), branches_pass (map (name_of args base names) entries) (outputs_at next rs) _ rs h.1)
+        ((λ two. ((λ r l. refl), (λ l. refl))), branches_pass (map (name_of args base names) entries) (outputs_at next rs) _ rs h.1)
     node_passes args base names next (node id Theta inputs no_regions) h = unknown next
     node_passes args base names next (node id Theta inputs (region_then r no_regions)) h = loop_passes (map (name_of args base names) inputs) next r h.1.0
     node_passes args base names next (node id Theta inputs (region_then r (region_then s rs))) h = unknown next

@@ -17,7 +17,7 @@ use Rattle.g_graph.specs.Scope.{each_node}
 use Rattle.g_graph.specs.WellFormed.{all_of, all_regions, are, same, kinds_of, every_region, every_in_node, every_in_nodes, every_in_regions, has_its_width, has_its_object, regions_fit, theta_has_states, node_fits, results_are_last, returns_state, region_has_one_state_each, region_fits, body_fits, numbers_fit, leaves_fit, IsWellFormed}
 use Rattle.g_graph.proofs.lemmas.Nodes.{same_kinds}
 use Rattle.s_linear.specs.Linear.{Code, no_steps}
-use Rattle.s_linear.specs.Lines.{done, names_below, lines}
+use Rattle.s_linear.specs.Lines.{enter, leave, done, names_below, lines}
 use Rattle.val_core.specs.Numbers.{numbers_from}
 use Rattle.s_linear.proofs.lemmas.Passing.{StepPasses, CodePasses, CodesPass, lines_pass}
 use Rattle.s_sequence.specs.Sequence.{values_in, value_args, kept, Names, no_names, node_names, nodes_names, region_names, regions_names, last_names, first_standing, outputs_at, bases_from, bases, named, nodes_named, name_of, moves, name_at, without_states, op_instr, instrs_then, loop_results, nodes_code, node_step, branch_codes, branch_code, loop_step, body_code, value_name, sequenced}
@@ -321,13 +321,17 @@ module _ (n : ℕ) where
       node_passes args base names next before (node id Get inputs rs) a b c e inside = own Get args base names next inputs a b (omega arith)
       node_passes args base names next before (node id Gamma [] rs) a b c e inside = cons next [] (omega arith) refl
       node_passes args base names next before (node id Gamma (o ∷ entries) no_regions) a b c e inside = (
-        (λ r l. cons (name_of args base names o) [] (name_below args base names a b o) refl),
-        (λ l. cons (name_of args base names o) [] (name_below args base names a b o) refl),
+        (λ two. (
+          (λ r l. cons (name_of args base names o) [] (name_below args base names a b o) refl),
+          (λ l. cons (name_of args base names o) [] (name_below args base names a b o) refl),
+        )),
         tt,
       )
       node_passes args base names next before (node id Gamma (o ∷ entries) (region_then r rs)) a b c e inside = (
-        (λ r l. cons (name_of args base names o) [] (name_below args base names a b o) refl),
-        (λ l. cons (name_of args base names o) [] (name_below args base names a b o) refl),
+        (λ two. (
+          (λ r l. cons (name_of args base names o) [] (name_below args base names a b o) refl),
+          (λ l. cons (name_of args base names o) [] (name_below args base names a b o) refl),
+        )),
         branches_pass (map (name_of args base names) entries) (outputs_at next (region_then r rs)) (bases next (values_in (result_kinds r)) (region_then r rs))
             (region_then r rs)
             (each_map _ entries (name_below args base names a b)) (bases_fit next (values_in (result_kinds r)) (region_then r rs) c)
@@ -399,18 +403,25 @@ params_are l e = by_form l.body ((and_parts (same (args_of l.body) (replicate l.
     by_form : (r : RegionTree) → same (args_of r) (replicate l.params Value ++ Memory ∷ Io ∷ []) ≡ true → l.params ≤ region_names r
     by_form (region args nodes results) h = omega (arith, are_values (map Some args) (replicate l.params Value ++ Memory ∷ Io ∷ []) h, body_values l.params)
 
-pub names_are_below : (l : PlainLambda) → IsWellFormed l → all_of (names_below (region_values l.body)) (lines (sequenced l)) ≡ true
-names_are_below l w =
+-- the parameters, the names of the code and that of the value are below the number of values
+pub parts_are_below : (l : PlainLambda) → IsWellFormed l → (names_below (region_values l.body) (enter (numbers_from 0 l.params)) ≡ true)
+    × CodePasses (names_below (region_values l.body)) (sequenced l).code × (names_below (region_values l.body) (leave (value_name l.body)) ≡ true)
+parts_are_below l w =
     let n : ℕ = region_values l.body in
     let own : (body_fits l && numbers_fit l && every_region (region_fits (length l.objects)) l.body) ≡ true =
     (and_parts (body_fits l && numbers_fit l && every_region (region_fits (length l.objects)) l.body) (all_of (λ o. leaves_fit o.size 0 o.leaves) l.objects) w).0 in
     let fit : body_fits l ≡ true = (and_parts (body_fits l) (numbers_fit l)
-    ((and_parts (body_fits l && numbers_fit l) (every_region (region_fits (length l.objects)) l.body) own).0)).0 in
-    lines_pass (names_below n) (λ l. refl) (λ l. refl) (sequenced l)
-    (each_number n 0 l.params (omega (arith, params_are l fit, names_values l.body)))
-    (body_passes n (length l.objects) l.body (names_values l.body)
-    ((and_parts (body_fits l && numbers_fit l) (every_region (region_fits (length l.objects)) l.body) own).1))
-    (cons n (value_name l.body) [] (value_below n (length l.objects) l.body (names_values l.body)) refl)
+    ((and_parts (body_fits l && numbers_fit l) (every_region (region_fits (length l.objects)) l.body) own).0)).0 in (
+      each_number n 0 l.params (omega (arith, params_are l fit, names_values l.body)),
+      body_passes n (length l.objects) l.body (names_values l.body)
+          ((and_parts (body_fits l && numbers_fit l) (every_region (region_fits (length l.objects)) l.body) own).1),
+      cons n (value_name l.body) [] (value_below n (length l.objects) l.body (names_values l.body)) refl,
+    )
+
+pub names_are_below : (l : PlainLambda) → IsWellFormed l → all_of (names_below (region_values l.body)) (lines (sequenced l)) ≡ true
+names_are_below l w =
+    let h = parts_are_below l w in
+    lines_pass (names_below (region_values l.body)) (λ l. refl) (λ l. refl) (sequenced l) h.0 h.1 h.2
 
 -- ---- parameters
 

@@ -19,7 +19,7 @@ loop-i-init c = record {
 
 pub loop-i-preserved : goal.loop-i-preserved
 loop-i-preserved c =
-    let address = address_in c.args.first (object_sizes c.args.program.typed.now (variables_of c.args.program.typed.now c.args.function)) in
+    let address = address_in c.args.first (object_sizes c.args.program.now.typed.now (variables_of c.args.program.now.typed.now c.args.function)) in
     let ps = c.args.params.now in
     let args = c.args.arguments.now in
     let i = c.loop-i.i in
@@ -55,14 +55,14 @@ loop-i-preserved c =
 
 pub returns-then-not-store-clause-stored : goal.returns-then-not-store-clause-stored
 returns-then-not-store-clause-stored c = λ calls m h.
-    object_not_taken (address_in c.args.first (object_sizes c.args.program.typed.now (variables_of c.args.program.typed.now c.args.function))) c.args.params.now c.args.arguments.now c.loop-i.i c.loop-i.number
+    object_not_taken (address_in c.args.first (object_sizes c.args.program.now.typed.now (variables_of c.args.program.now.typed.now c.args.function))) c.args.params.now c.args.arguments.now c.loop-i.i c.loop-i.number
     c.access_width.result c.index-params-i.result c.address_of-at.result c.argument_at-v.result calls c.loop-i.store c.store.new.self c.store.result _ c.loop-i-test.true c.index-params-i.is
     (ap (λ (x : VariableTree). x.is_object) (sym c.p.view_is) ∙ c.if-p.true) (c.access_width.ensures ∙ ap access_width (c.deref.ensures ∙ ap (λ (x : VariableTree). x.type) c.p.view_is))
     c.address_of-at.ensures c.argument_at-v.ensures c.if-not-store.true (λ k held. c.store.ensures calls k held) (c.loop-i.invariant.stored calls m h)
 
 pub returns-clause-stored : goal.returns-clause-stored
 returns-clause-stored c = λ calls m h.
-    all_taken (address_in c.args.first (object_sizes c.args.program.typed.now (variables_of c.args.program.typed.now c.args.function))) c.args.params.now c.args.arguments.now c.loop-i.i c.loop-i.number calls
+    all_taken (address_in c.args.first (object_sizes c.args.program.now.typed.now (variables_of c.args.program.now.typed.now c.args.function))) c.args.params.now c.args.arguments.now c.loop-i.i c.loop-i.number calls
     c.loop-i.store _ c.loop-i-test.false (c.loop-i.invariant.stored calls m h)
 
 pub returns-clause-slots : goal.returns-clause-slots

@@ -23,8 +23,14 @@ decreases-locate_to l = 8 * l.depth + 1
 abbrev pub decreases-unary_to : goal.decreases-unary_to
 decreases-unary_to l = 8 * l.depth + 2
 
+abbrev pub decreases-test_later : goal.decreases-test_later
+decreases-test_later l = 8 * l.depth + 1
+
+abbrev pub decreases-test_unary : goal.decreases-test_unary
+decreases-test_unary l = 8 * l.depth + 2
+
 abbrev pub decreases-test_to : goal.decreases-test_to
-decreases-test_to l = 8 * l.depth + 2
+decreases-test_to l = 8 * l.depth + 3
 
 abbrev pub decreases-choose_to : goal.decreases-choose_to
 decreases-choose_to l = 8 * l.depth + 2
@@ -42,10 +48,10 @@ abbrev pub decreases-store_to : goal.decreases-store_to
 decreases-store_to l = 8 * l.depth + 2
 
 abbrev pub decreases-and_to : goal.decreases-and_to
-decreases-and_to l = 8 * l.depth + 3
+decreases-and_to l = 8 * l.depth + 4
 
 abbrev pub decreases-or_to : goal.decreases-or_to
-decreases-or_to l = 8 * l.depth + 3
+decreases-or_to l = 8 * l.depth + 4
 
 abbrev pub decreases-operate_to : goal.decreases-operate_to
 decreases-operate_to l = 8 * l.depth + 3

@@ -7,4 +7,4 @@ use Rattle.c_interp.proofs.known.known_truth.Goals as goal
 pub returns : goal.returns
 returns c = λ n k i held.
     let x = config_of c.args.machine.now k i in
-    c.asked.ensures (calls_in c.args.machine.now) (context c.args.program.typed.now n x) (state_of x) (c.scope_of.ensures n k i held)
+    c.asked.ensures (calls_in c.args.machine.now) (context c.args.program.now.typed.now n x) (state_of x) (c.scope_of.ensures n k i held)

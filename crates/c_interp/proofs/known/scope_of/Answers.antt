@@ -8,6 +8,6 @@ pub returns : goal.returns
 returns c = λ n k i held. record {
   memory = held.store;
   slots = ap slots_of c.as_slice.ensures.value;
-  locals = λ j. ap (λ l. address_in c.args.machine.now.frame.objects.first l j) (sym (sizes-laid c.args.program.typed.now c.args.program.layouts.now c.args.machine.now.frame.function c.requires.laid));
+  locals = λ j. ap (λ l. address_in c.args.machine.now.frame.objects.first l j) (sym (sizes-laid c.args.program.now.typed.now c.args.program.now.layouts.now c.args.machine.now.frame.function c.requires.laid));
   globals = λ j. ap (λ l. address_in 0 l j) (sym c.requires.laid.globals);
 }

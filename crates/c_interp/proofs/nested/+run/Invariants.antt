@@ -29,6 +29,9 @@ decreases-item_to l = 8 * l.depth + 8
 abbrev pub decreases-variable_to : goal.decreases-variable_to
 decreases-variable_to l = 8 * l.depth + 7
 
+abbrev pub decreases-statement_to : goal.decreases-statement_to
+decreases-statement_to l = 8 * l.depth + 6
+
 abbrev pub decreases-first_to : goal.decreases-first_to
 decreases-first_to l = 8 * l.depth + 5
 
@@ -43,3 +46,15 @@ decreases-begin_to l = 8 * l.depth + 5
 
 abbrev pub decreases-begin_known : goal.decreases-begin_known
 decreases-begin_known l = 8 * l.depth + 4
+
+abbrev pub decreases-run_then : goal.decreases-run_then
+decreases-run_then l = 8 * l.depth + 1
+
+abbrev pub decreases-if_to : goal.decreases-if_to
+decreases-if_to l = 8 * l.depth + 2
+
+abbrev pub decreases-turn_then : goal.decreases-turn_then
+decreases-turn_then l = 8 * l.depth + 2
+
+abbrev pub decreases-while_then : goal.decreases-while_then
+decreases-while_then l = 8 * l.depth + 4

@@ -12,7 +12,7 @@ use Rattle.c_interp.proofs.nested.begin_later.Goals as goal
 
 pub returns : goal.returns
 returns c = λ n.
-    let p = c.args.program.typed.now in
+    let p = c.args.program.now.typed.now in
     let old = c.args.machine.now in
     let new = c.evaluate_unknown.new.machine in
     let r = c.evaluate_unknown.result in

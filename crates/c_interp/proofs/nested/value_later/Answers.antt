@@ -8,6 +8,6 @@ use Rattle.c_interp.proofs.nested.value_later.Goals as goal
 
 pub returns : goal.returns
 returns c = λ n.
-    let p = c.args.program.typed.now in
+    let p = c.args.program.now.typed.now in
     put_then p n c.evaluate_and_drop.result c.args.machine.now c.evaluate_and_drop.new.machine c.push.new.self (OfStmt (RunItems c.args.rest)) (tasks_do p n (optional_tasks (some_expr c.args.e.now))) c.in_ok-push.ensures.items
     (c.evaluate_and_drop.ensures n)

@@ -9,7 +9,7 @@ use Rattle.c_interp.proofs.perform.performed_more.Goals as goal
 
 pub returns-in-Assign : goal.returns-in-Assign
 returns-in-Assign c = λ n.
-    let p = c.args.program.typed.now in
+    let p = c.args.program.now.typed.now in
     let t = c.deref.result.now in
     let q = c.in-Assign.p in
     let a = c.deref-in-Assign.result.now in
@@ -19,7 +19,7 @@ returns-in-Assign c = λ n.
 
 pub returns-in-IncDec : goal.returns-in-IncDec
 returns-in-IncDec c = λ n.
-    let p = c.args.program.typed.now in
+    let p = c.args.program.now.typed.now in
     let t = c.deref-in-IncDec.result.now in
     let i = c.in-IncDec.step in
     let q = c.in-IncDec.p in

@@ -7,6 +7,6 @@ use Rattle.c_interp.proofs.statement.return_later.Goals as goal
 
 pub returns : goal.returns
 returns c = λ n.
-    let p = c.args.program.typed.now in
+    let p = c.args.program.now.typed.now in
     return_put p n c.evaluate_unknown.result c.args.machine.now c.evaluate_unknown.new.machine c.args.e.now
     (put_then p n c.evaluate_unknown.result c.args.machine.now c.evaluate_unknown.new.machine c.push.new.self (OfStmt ReturnIt) (expr_task_run p n (task.evaluate c.args.e.now)) c.in_ok-push.ensures.items (c.evaluate_unknown.ensures n))

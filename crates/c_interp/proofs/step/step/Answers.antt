@@ -9,15 +9,15 @@ use Rattle.c_interp.proofs.step.step.Goals as goal
 
 pub returns-in-Normal-clause-step : goal.returns-in-Normal-clause-step
 returns-in-Normal-clause-step g c =
-    let p = c.args.program.typed.now in
-    let n = c.args.program.bound in
+    let p = c.args.program.now.typed.now in
+    let n = c.args.program.now.bound in
     task_as p n c.do_expr.result c.args.machine.now c.do_expr.new.machine _ _ _ _ c.args.task _ c.in-OfExpr.is
     (expr_normally p n c.do_expr.result c.args.machine.now c.do_expr.new.machine _ _ _ _ c.in-OfExpr.t c.in-Normal.is c.do_expr.ensures.step)
 
 pub returns-in_default : goal.returns-in_default
 returns-in_default g c =
-    let p = c.args.program.typed.now in
-    let n = c.args.program.bound in
+    let p = c.args.program.now.typed.now in
+    let n = c.args.program.now.bound in
     record {
       step = task_as p n (Ok tt) c.args.machine.now c.args.machine.now _ _ ⊥ ⊥ c.args.task _ c.in-OfExpr.is
           (quiet_at p n (Ok tt) c.args.machine.now c.args.machine.now (task_from p n (of_expr (expr_task_of c.in-OfExpr.t)) (flow_of c.args.machine.now.flow)) _ ⊥ ⊥ c.requires.at_end
@@ -29,14 +29,14 @@ returns-in_default g c =
 
 pub returns-in-OfStmt-clause-step : goal.returns-in-OfStmt-clause-step
 returns-in-OfStmt-clause-step g c =
-    let p = c.args.program.typed.now in
-    let n = c.args.program.bound in
+    let p = c.args.program.now.typed.now in
+    let n = c.args.program.now.bound in
     task_as p n c.stmt_unless_jump.result c.args.machine.now c.stmt_unless_jump.new.machine _ _ _ _ c.args.task _ c.in-OfStmt.is
     (quiet_at p n c.stmt_unless_jump.result c.args.machine.now c.stmt_unless_jump.new.machine _ _ _ _ c.requires.at_end c.stmt_unless_jump.ensures)
 
 pub returns-in-Handler-clause-step : goal.returns-in-Handler-clause-step
 returns-in-Handler-clause-step g c =
-    let p = c.args.program.typed.now in
-    let n = c.args.program.bound in
+    let p = c.args.program.now.typed.now in
+    let n = c.args.program.now.bound in
     task_as p n c.handle.result c.args.machine.now c.handle.new.machine _ _ _ _ c.args.task _ c.in-Handler.is
     (quiet_at p n c.handle.result c.args.machine.now c.handle.new.machine _ _ _ _ c.requires.at_end c.handle.ensures)

@@ -11,8 +11,8 @@ use Rattle.c_interp.proofs.turns.go_on.Goals as goal
 
 pub returns-in-Some : goal.returns-in-Some
 returns-in-Some c =
-    let p = c.args.program.typed.now in
-    let n = c.args.program.bound in
+    let p = c.args.program.now.typed.now in
+    let n = c.args.program.now.bound in
     let d = optional_of c.in-Loop.condition in
     let e = c.in-Some.e in
     let b = c.in-Loop.body.value in
@@ -22,8 +22,8 @@ returns-in-Some c =
 
 pub returns-in-None : goal.returns-in-None
 returns-in-None c =
-    let p = c.args.program.typed.now in
-    let n = c.args.program.bound in
+    let p = c.args.program.now.typed.now in
+    let n = c.args.program.now.bound in
     let d = optional_of c.in-Loop.condition in
     let b = c.in-Loop.body.value in
     let here : c.args.a.now ≡ tree.loop d tree.no_expr b = sym c.a.view_is ∙ ap stmt_of c.in-Loop.is ∙ ap (λ o. tree.loop d (optional_of o) b) c.in-None.is in
@@ -32,8 +32,8 @@ returns-in-None c =
 
 pub returns-in-DoWhile : goal.returns-in-DoWhile
 returns-in-DoWhile c =
-    let p = c.args.program.typed.now in
-    let n = c.args.program.bound in
+    let p = c.args.program.now.typed.now in
+    let n = c.args.program.now.bound in
     let e = c.in-DoWhile.condition in
     let b = c.in-DoWhile.body.value in
     let here : c.args.a.now ≡ tree.do_while b e = sym c.a.view_is ∙ ap stmt_of c.in-DoWhile.is in
@@ -42,6 +42,6 @@ returns-in-DoWhile c =
 
 pub returns-in_default : goal.returns-in_default
 returns-in_default c =
-    let p = c.args.program.typed.now in
-    let n = c.args.program.bound in
+    let p = c.args.program.now.typed.now in
+    let n = c.args.program.now.bound in
     flows_then p n c.put_again.result c.args.machine.now c.put_again.new.machine Normal (tasks_do p n (again_tasks c.args.turns c.args.a.now)) (c.put_again.ensures p n)

@@ -7,12 +7,12 @@ use Rattle.c_interp.proofs.turns.step_then.Goals as goal
 
 pub run_turns-requires-clause-normal : goal.run_turns-requires-clause-normal
 run_turns-requires-clause-normal c =
-    performed_flow c.args.program.typed.now c.args.program.bound c.in-Ok-true.field-0 c.args.machine.now c.performed.new.machine _ (c.in-Ok-true.ensures c.args.program.bound) c.requires.normal
+    performed_flow c.args.program.now.typed.now c.args.program.now.bound c.in-Ok-true.field-0 c.args.machine.now c.performed.new.machine _ (c.in-Ok-true.ensures c.args.program.now.bound) c.requires.normal
 
 pub returns-in-Ok-true : goal.returns-in-Ok-true
 returns-in-Ok-true c =
-    let p = c.args.program.typed.now in
-    let n = c.args.program.bound in
+    let p = c.args.program.now.typed.now in
+    let n = c.args.program.now.bound in
     let mid = c.performed.new.machine in
     let run = tasks_do p n (optional_tasks (some_expr c.args.e.now)) in
     moved_then p n c.run_turns.result c.args.machine.now mid c.run_turns.new.machine run (stmt.run_turns c.args.turns c.args.a.now)
@@ -20,17 +20,17 @@ returns-in-Ok-true c =
 
 pub step_later-requires-clause-normal : goal.step_later-requires-clause-normal
 step_later-requires-clause-normal c =
-    performed_flow c.args.program.typed.now c.args.program.bound c.in-Ok-false.field-0 c.args.machine.now c.performed.new.machine _ (c.in-Ok-false.ensures c.args.program.bound) c.requires.normal
+    performed_flow c.args.program.now.typed.now c.args.program.now.bound c.in-Ok-false.field-0 c.args.machine.now c.performed.new.machine _ (c.in-Ok-false.ensures c.args.program.now.bound) c.requires.normal
 
 pub returns-in-Ok-false : goal.returns-in-Ok-false
 returns-in-Ok-false c =
-    let p = c.args.program.typed.now in
-    let n = c.args.program.bound in
+    let p = c.args.program.now.typed.now in
+    let n = c.args.program.now.bound in
     let run = tasks_do p n (optional_tasks (some_expr c.args.e.now)) in
     not_performed p n c.in-Ok-false.field-0 c.step_later.result c.args.machine.now c.performed.new.machine c.step_later.new.machine run _ c.in-Ok-false.field-0-test (c.in-Ok-false.ensures n) (c.step_later.ensures n)
 
 pub returns-in-Err : goal.returns-in-Err
 returns-in-Err c =
-    let p = c.args.program.typed.now in
-    let n = c.args.program.bound in
+    let p = c.args.program.now.typed.now in
+    let n = c.args.program.now.bound in
     stopped_then p n c.in-Err.stop c.args.machine.now c.performed.new.machine (tasks_do p n (optional_tasks (some_expr c.args.e.now))) _ (c.in-Err.ensures n)

@@ -12,8 +12,8 @@ use Rattle.c_interp.proofs.turns.turn_if.Goals as goal
 
 pub returns-in-Some : goal.returns-in-Some
 returns-in-Some c =
-    let p = c.args.program.typed.now in
-    let n = c.args.program.bound in
+    let p = c.args.program.now.typed.now in
+    let n = c.args.program.now.bound in
     let e = c.in-Some.e in
     let step = optional_of c.in-Loop.step in
     let b = c.deref-in-Some.result.now in
@@ -31,8 +31,8 @@ returns-in-Some c =
 
 pub returns-in-DoWhile : goal.returns-in-DoWhile
 returns-in-DoWhile c =
-    let p = c.args.program.typed.now in
-    let n = c.args.program.bound in
+    let p = c.args.program.now.typed.now in
+    let n = c.args.program.now.bound in
     let e = c.in-DoWhile.condition in
     let b = c.in-DoWhile.body.value in
     let here : c.args.a.now ≡ tree.do_while b e = sym c.a.view_is ∙ ap stmt_of c.in-DoWhile.is in

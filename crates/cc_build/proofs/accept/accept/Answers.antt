@@ -7,7 +7,7 @@ returns-in-Ok-compile g c =
     let found = c.in-Ok-compile.compiled in
     record {
       cause =
-          accepted_ends _ found.functions c.tell_accepted.result _ _ _ _ c.deref.result.now found.image.items found.rows.items (λ text is. c.deref.ensures.value ∙ c.in-Ok.ensures.bytes text is)
+          accepted_ends _ _ found.functions c.tell_accepted.result _ _ _ _ c.deref.result.now found.image.items found.rows.items (λ text is. c.deref.ensures.value ∙ c.in-Ok.ensures.bytes text is)
           c.in-Ok-compile.ensures.accepted c.tell_accepted.ensures;
       taken = c.in-Ok.ensures.rest.0;
       rest = c.in-Ok.ensures.rest.1;

@@ -7,7 +7,7 @@ use Rattle.cc_build.proofs.build.compile_file.Goals as goal
 pub returns-clause-compiled : goal.returns-clause-compiled
 returns-clause-compiled g c =
     IfOk-weaker c.compile_by_workers.result _ _
-    (λ found h. compiled_of_read c.args.recipe.now c.args.source.now _ c.deref.result.now found.image.items found.functions found.rows.items
+    (λ found h. compiled_of_read c.args.recipe.now c.args.form c.args.source.now _ c.deref.result.now found.image.items found.functions found.rows.items
     (λ all known. c.deref.ensures.value ∙ c.in-Ok.ensures.bytes all known) h)
     c.compile_by_workers.ensures.accepted
 

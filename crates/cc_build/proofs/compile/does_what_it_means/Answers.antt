@@ -1,7 +1,7 @@
 use Rattle.std.proofs.Common.{◌^◌, ◌<◌, sym, subst}
 use Rattle.std.proofs.lemmas.List.Elements.{All-from_get_or}
 use Rattle.cc_emit_def.specs.Image.{lambdas_of}
-use Rattle.cc_source_keeps.specs.Meaning.{KeepsMeaning}
+use Rattle.cc_compile_keeps.specs.cc_source_keeps.Meaning.{KeepsMeaning}
 use Rattle.cc_build.proofs.compile.does_what_it_means.Goals as goal
 
 pub returns : goal.returns
@@ -16,8 +16,8 @@ returns c =
         accepted = h.1;
         image = image;
         meaning =
-            subst (KeepsMeaning h.0 (lambdas_of image.answers)) (sym image.file)
-            (c.recipes_keep_meaning.ensures source bytes h.0 h.1 c.args.recipe.now image.answers image.made);
+            subst (KeepsMeaning c.args.form h.0 (lambdas_of image.answers)) (sym image.file)
+            (c.recipes_keep_meaning.ensures c.args.form source bytes h.0 h.1 c.args.recipe.now image.answers image.made);
       };
       counted = h.3;
       listed = h.2.1;

@@ -6,7 +6,7 @@ use Rattle.g_graph.specs.Lists.{IsComplete}
 use Rattle.g_graph.specs.Plain.{PlainLambda, PlainOmega}
 use Rattle.g_build_def.specs.Functions as built
 use Rattle.g_pass_def.specs.Answers.{AreAnswers}
-use Rattle.g_pass.specs.Sweep.{rules}
+use Rattle.g_pass_keeps.specs.g_pass.Sweep.{rules}
 use Rattle.cc_emit_def.specs.Image.{file_of_program, lambdas_of, CanEmit}
 use Rattle.cc_compile.specs.Compiled.{IsCompiledUnder}
 use Rattle.cc_compile.proofs.typed.compiled_of.Goals as goal
@@ -52,5 +52,5 @@ returns-clause-compiled c =
     let made =
     subst (λ xs. AreAnswers rules recipe (built.omega p).lambdas (map arc_value xs)) (sym c.deref-2.ensures.value)
     (subst (λ (ls : List PlainLambda). AreAnswers rules recipe ls (map arc_value c.in_ok-all.all.items)) lambdas c.in_ok-all.ensures) in
-    IfOk-weaker c.compiled_with.result _ (λ x. IsCompiledUnder recipe p x.image.items x.rows.items)
-    (λ x is. (record { answers = all; made = made; file = is.0 ∙ ap (λ o. file_of_program o (lambdas_of all)) c.requires.graph }, is.1)) c.compiled_with.ensures.compiled
+    IfOk-weaker c.compiled_with.result _ (λ x. IsCompiledUnder recipe c.args.form p x.image.items x.rows.items)
+    (λ x is. (record { answers = all; made = made; file = is.0 ∙ ap (λ o. file_of_program c.args.form o (lambdas_of all)) c.requires.graph }, is.1)) c.compiled_with.ensures.compiled

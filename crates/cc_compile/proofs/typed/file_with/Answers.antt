@@ -13,6 +13,7 @@ all_items-requires c = is_function c.args.omega.now (lambdas_of (map arc_value c
 
 pub file_of_items-requires : goal.file_of_items-requires
 file_of_items-requires c = record {
+  form = c.args.form;
   lambdas = lambdas_of (map arc_value c.args.all.now);
   can = c.requires;
   items_are = ap item_lists c.deref.ensures.value ∙ c.in_ok-functions.ensures;
@@ -23,4 +24,4 @@ returns c =
     let o = c.args.omega.now in
     let ls = lambdas_of (map arc_value c.args.all.now) in
     let image = ap (λ fs. file_of (image_of_items o fs)) (ap item_lists c.deref.ensures.value ∙ c.in_ok-functions.ensures) in
-    IfOk-weaker c.file_of_items.result _ (λ file. file.items ≡ file_of_program o ls) (λ file is. is ∙ image) c.file_of_items.ensures
+    IfOk-weaker c.file_of_items.result _ (λ file. file.items ≡ file_of_program c.args.form o ls) (λ file is. is ∙ image) c.file_of_items.ensures

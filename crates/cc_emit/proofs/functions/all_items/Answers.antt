@@ -12,12 +12,12 @@ function_items-requires c =
     let is = c.behind-answer.view_is ∙ c.deref.ensures in
     subst (λ (o : PlainOptimised). IsFunction o.lambda) (sym is)
     (c.requires c.loop-answer.answer-index (arc_value a).lambda
-    (answer_at arc_value c.args.answers.now c.loop-answer.answer-index a c.loop-answer-test.true c.answer-item.is))
+    (answer_at c.args.form arc_value c.args.answers.now c.loop-answer.answer-index a c.loop-answer-test.true c.answer-item.is))
 
 pub loop-answer-preserved : goal.loop-answer-preserved
 loop-answer-preserved c =
     let a = c.answer-item.result in
     let is = c.behind-answer.view_is ∙ c.deref.ensures in
-    items_more arc_value c.args.answers.now c.loop-answer.answer-index a c.loop-answer-test.true c.answer-item.is c.loop-answer.all.items c.push.new.self.items
-    c.in_ok-function_items.field-0 c.loop-answer.invariant (c.in_ok-function_items.ensures ∙ ap (λ (o : PlainOptimised). function_items o.lambda) is)
+    items_more c.args.form arc_value c.args.answers.now c.loop-answer.answer-index a c.loop-answer-test.true c.answer-item.is c.loop-answer.all.items c.push.new.self.items
+    c.in_ok-function_items.field-0 c.loop-answer.invariant (c.in_ok-function_items.ensures ∙ ap (λ (o : PlainOptimised). function_items c.args.form o.lambda) is)
     c.in_ok-push.ensures.items

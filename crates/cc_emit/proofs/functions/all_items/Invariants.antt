@@ -5,4 +5,4 @@ use Rattle.cc_emit_def.specs.Image.{function_items, lambdas_of}
 use Rattle.cc_emit.proofs.functions.all_items.Given as goal
 
 abbrev pub invariant-loop-answer : goal.invariant-loop-answer
-invariant-loop-answer l = item_lists l.all.items ≡ map function_items (lambdas_of (map arc_value (take l.answer-index l.answers)))
+invariant-loop-answer l = item_lists l.all.items ≡ map (function_items l.form) (lambdas_of (map arc_value (take l.answer-index l.answers)))

@@ -13,6 +13,7 @@ all_items-requires c = is_function c.args.omega.now (lambdas_of (map arc_value c
 
 pub emit_items-requires : goal.emit_items-requires
 emit_items-requires c = record {
+  form = c.args.form;
   lambdas = lambdas_of (map arc_value c.args.answers.now);
   can = c.requires;
   items_are = ap item_lists c.deref.ensures.value ∙ c.in_ok-functions.ensures;
@@ -25,4 +26,4 @@ returns-clause-image c =
 
 pub returns-clause-kept : goal.returns-clause-kept
 returns-clause-kept c =
-    kept_here c.args.omega.now (lambdas_of (map arc_value c.args.answers.now)) c.requires c.images_keep_meaning.ensures c.emit_items.result (returns-clause-image c)
+    kept_here c.args.form c.args.omega.now (lambdas_of (map arc_value c.args.answers.now)) c.requires c.images_keep_meaning.ensures c.emit_items.result (returns-clause-image c)

@@ -4,6 +4,9 @@ use Rattle.g_graph.specs.Plain.{PlainLambda}
 use Rattle.g_graph.specs.WellFormed.{all_of}
 use Rattle.s_linear.specs.Lines.{names_below}
 use Rattle.rv_layout.specs.Items.{items_size}
+use Rattle.a_place.specs.Places.{places}
+use Rattle.s_linear.specs.declared.frame.CodeForm.TheVariants.{Plain}
+use Rattle.a_place.specs.Places.{places}
 use Rattle.cc_emit_def.proofs.lemmas.Lambdas.{names_fit, frame_fits_here, can_select_here, items_are}
 use Rattle.cc_listing.proofs.FunctionLemmas.{text_is}
 use Rattle.cc_listing.proofs.functions.push_function.Goals as goal
@@ -13,38 +16,38 @@ place-requires c = subst (λ ls. IsTrue (all_of (names_below 4294967295) ls)) (s
 
 pub frame-frame-requires : goal.frame-frame-requires
 frame-frame-requires c =
-    frame_fits_here c.args.lambda.now c.in_ok-linear.linear c.in_ok-places.places c.deref.result.now c.in_ok-linear.ensures c.in_ok-places.ensures
+    frame_fits_here Plain c.args.lambda.now c.in_ok-linear.linear c.in_ok-places.places c.deref.result.now c.in_ok-linear.ensures (c.in_ok-places.ensures ∙ ap places c.in_ok-linear.ensures)
     (c.deref.ensures.value ∙ ap (λ (l : PlainLambda). l.objects) c.lambda.view_is) c.requires.function
 
 pub push_placed-requires-clause-select : goal.push_placed-requires-clause-select
 push_placed-requires-clause-select c =
-    can_select_here c.args.lambda.now c.in_ok-linear.linear c.in_ok-places.places c.deref-2.result.now c.in_ok-linear.ensures c.in_ok-places.ensures
+    can_select_here Plain c.args.lambda.now c.in_ok-linear.linear c.in_ok-places.places c.deref-2.result.now c.in_ok-linear.ensures (c.in_ok-places.ensures ∙ ap places c.in_ok-linear.ensures)
     (c.deref-2.ensures.value ∙ ap (λ (l : PlainLambda). l.objects) c.lambda.view_is) c.frame-frame.result c.deref.result.now c.requires.function
     (c.deref.ensures.value ∙ ap (λ (l : PlainLambda). l.objects) c.lambda.view_is) c.frame-frame.ensures
 
 pub push_placed-requires-clause-fits : goal.push_placed-requires-clause-fits
 push_placed-requires-clause-fits c =
-    frame_fits_here c.args.lambda.now c.in_ok-linear.linear c.in_ok-places.places c.deref-2.result.now c.in_ok-linear.ensures c.in_ok-places.ensures
+    frame_fits_here Plain c.args.lambda.now c.in_ok-linear.linear c.in_ok-places.places c.deref-2.result.now c.in_ok-linear.ensures (c.in_ok-places.ensures ∙ ap places c.in_ok-linear.ensures)
     (c.deref-2.ensures.value ∙ ap (λ (l : PlainLambda). l.objects) c.lambda.view_is) c.requires.function
 
 pub push_placed-requires-clause-whole : goal.push_placed-requires-clause-whole
 push_placed-requires-clause-whole c =
     subst (λ is. items_size is ≤ 4 * length c.args.words.now)
-    (sym (items_are c.args.lambda.now c.in_ok-linear.linear c.in_ok-places.places c.deref-2.result.now c.in_ok-linear.ensures c.in_ok-places.ensures
+    (sym (items_are Plain c.args.lambda.now c.in_ok-linear.linear c.in_ok-places.places c.deref-2.result.now c.in_ok-linear.ensures (c.in_ok-places.ensures ∙ ap places c.in_ok-linear.ensures)
     (c.deref-2.ensures.value ∙ ap (λ (l : PlainLambda). l.objects) c.lambda.view_is)))
     c.requires.whole
 
 pub push_placed-requires-clause-end : goal.push_placed-requires-clause-end
 push_placed-requires-clause-end c =
     subst (λ is. c.args.at + items_size is < 2 ^ 32)
-    (sym (items_are c.args.lambda.now c.in_ok-linear.linear c.in_ok-places.places c.deref-2.result.now c.in_ok-linear.ensures c.in_ok-places.ensures
+    (sym (items_are Plain c.args.lambda.now c.in_ok-linear.linear c.in_ok-places.places c.deref-2.result.now c.in_ok-linear.ensures (c.in_ok-places.ensures ∙ ap places c.in_ok-linear.ensures)
     (c.deref-2.ensures.value ∙ ap (λ (l : PlainLambda). l.objects) c.lambda.view_is)))
     c.requires.end
 
 pub returns-clause-end : goal.returns-clause-end
 returns-clause-end c =
     subst (λ is. IfOk c.push_placed.result (λ end. end ≡ c.args.at + items_size is))
-    (items_are c.args.lambda.now c.in_ok-linear.linear c.in_ok-places.places c.deref-2.result.now c.in_ok-linear.ensures c.in_ok-places.ensures
+    (items_are Plain c.args.lambda.now c.in_ok-linear.linear c.in_ok-places.places c.deref-2.result.now c.in_ok-linear.ensures (c.in_ok-places.ensures ∙ ap places c.in_ok-linear.ensures)
     (c.deref-2.ensures.value ∙ ap (λ (l : PlainLambda). l.objects) c.lambda.view_is))
     c.push_placed.ensures.end
 

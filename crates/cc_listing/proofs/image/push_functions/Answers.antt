@@ -3,6 +3,7 @@ use Rattle.std.proofs.Common.{◌≡◌, ◌+◌, ◌-◌, ◌*◌, ◌/◌, ◌
 use Rattle.std.proofs.lemmas.List.{length-drop}
 use Rattle.std.specs.Arc.{arc_value}
 use Rattle.g_graph.specs.Plain.{PlainOptimised}
+use Rattle.s_linear.specs.declared.frame.CodeForm.TheVariants.{Plain}
 use Rattle.cc_emit_def.specs.Image.{code_size, lambdas_of}
 use Rattle.cc_emit_def.specs.Laws.{IsFunction}
 use Rattle.cc_listing.specs.Lines.{function_text}
@@ -20,7 +21,7 @@ push_function-requires-clause-function c =
 pub push_function-requires-clause-whole : goal.push_function-requires-clause-whole
 push_function-requires-clause-whole c =
     let same = c.behind-answer.view_is ∙ c.deref.ensures in
-    subst (λ (o : PlainOptimised). code_size o.lambda ≤ 4 * length c.loop-number.rest.now) (sym same)
+    subst (λ (o : PlainOptimised). code_size Plain o.lambda ≤ 4 * length c.loop-number.rest.now) (sym same)
     (own_there arc_value c.args.answers.now c.loop-number.number c.index-answers-number.result c.loop-number-test.true c.index-answers-number.is
     (4 * length c.loop-number.rest.now) c.loop-number.invariant.whole)
 
@@ -42,7 +43,7 @@ loop-number-preserved c =
     let names = c.args.names.now in
     let name = c.name_at-name.result.now in
     let same = c.behind-answer.view_is ∙ c.deref.ensures in
-    let ends : end ≡ here + code_size (arc_value a).lambda = c.in_ok-end.ensures.end ∙ ap (λ (o : PlainOptimised). here + code_size o.lambda) same in
+    let ends : end ≡ here + code_size Plain (arc_value a).lambda = c.in_ok-end.ensures.end ∙ ap (λ (o : PlainOptimised). here + code_size Plain o.lambda) same in
     let own = own_there arc_value xs i a within is (4 * length rest) before.whole in
     let left = left_there arc_value xs i a within is (4 * length rest) before.whole in
     let later = c.cut.result.1.now in

@@ -5,7 +5,7 @@ use Rattle.cc_script.proofs.open.open.Goals as goal
 
 pub returns-in-Ok-clause-opened : goal.returns-in-Ok-clause-opened
 returns-in-Ok-clause-opened g c =
-    opened_on_read c.args.recipe c.args.source.now _ c.in-Ok.text.items c.session_on.result c.in-Ok.ensures.bytes c.session_on.ensures.opened c.session_on.ensures.accepted
+    opened_on_read c.args.recipe c.args.form c.args.source.now _ c.in-Ok.text.items c.session_on.result c.in-Ok.ensures.bytes c.session_on.ensures.opened c.session_on.ensures.accepted
 
 pub returns-in-Ok-clause-err : goal.returns-in-Ok-clause-err
 returns-in-Ok-clause-err g c =

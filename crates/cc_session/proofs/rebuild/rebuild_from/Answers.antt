@@ -5,7 +5,7 @@ use Rattle.call_order.specs.Units.{call_lists}
 use Rattle.g_graph.specs.Plain.{PlainLambda, PlainOmega}
 use Rattle.g_build_def.specs.Functions as built
 use Rattle.g_pass_def.specs.Answers.{AreAnswers}
-use Rattle.g_pass.specs.Sweep.{rules}
+use Rattle.g_pass_renew.specs.g_pass.Sweep.{rules}
 use Rattle.rv_layout.specs.Layout.{item_lists}
 use Rattle.cc_emit_def.specs.Image.{lambdas_of}
 use Rattle.cc_emit_def.specs.Laws.{IsFunction}
@@ -46,9 +46,9 @@ items_since-requires-clause-kept g c =
     let items = item_lists c.items_of.result.now in
     let kept =
     items-kept c.orders_are_unique.ensures.unique c.unstale_answers_are_kept.ensures c.args.recipe.now c.args.last.now c.requires.session.is_last ls deps stale answers
-    c.in_ok-made.ensures items c.items_of.ensures in
-    subst (λ xs. AreItemsKept (map arc_value xs) c.deref-3.result.now items) (sym c.deref-2.ensures.value)
-    (subst (λ (st : List Bool). AreItemsKept answers st items) (sym c.deref-3.ensures.value) kept)
+    c.in_ok-made.ensures c.args.form c.requires.session.is_form items c.items_of.ensures in
+    subst (λ xs. AreItemsKept c.args.form (map arc_value xs) c.deref-3.result.now items) (sym c.deref-2.ensures.value)
+    (subst (λ (st : List Bool). AreItemsKept c.args.form answers st items) (sym c.deref-3.ensures.value) kept)
 
 pub file_of_items-requires : goal.file_of_items-requires
 file_of_items-requires g c =
@@ -61,9 +61,10 @@ file_of_items-requires g c =
     let all = subst (λ (ls : List PlainLambda). AreAnswers rules recipe ls answers) lambdas c.in_ok-made.ensures.answered in
     subst (λ (o : PlainOmega). CanEmitItems o (item_lists c.deref-4.result.now)) (sym graph)
     (record {
+      form = c.args.form;
       lambdas = lambdas_of answers;
       can = c.answers_can_be_emitted.ensures p typed.typed typed.limits typed.accepted.within recipe answers all;
-      items_are = ap item_lists c.deref-4.ensures.value ∙ (c.in_ok-items.ensures ∙ ap (λ xs. items_of (map arc_value xs)) c.deref-2.ensures.value);
+      items_are = ap item_lists c.deref-4.ensures.value ∙ (c.in_ok-items.ensures ∙ ap (λ xs. items_of c.args.form (map arc_value xs)) c.deref-2.ensures.value);
     })
 
 pub returns : goal.returns
@@ -78,12 +79,12 @@ returns g c =
     let stale = c.in_ok-made.made.stale.items in
     let answers = map arc_value c.in_ok-made.made.answers.items in
     let made = subst (λ (ls : List PlainLambda). AreRemade recipe last ls deps stale answers) lambdas c.in_ok-made.ensures in
-    let items = ap item_lists c.deref-4.ensures.value ∙ (c.in_ok-items.ensures ∙ ap (λ xs. items_of (map arc_value xs)) c.deref-2.ensures.value) in
+    let items = ap item_lists c.deref-4.ensures.value ∙ (c.in_ok-items.ensures ∙ ap (λ xs. items_of c.args.form (map arc_value xs)) c.deref-2.ensures.value) in
     let file =
     c.in_ok-image.ensures
     ∙ (ap (λ (o : PlainOmega). file_of (image_of_items o (item_lists c.deref-4.result.now))) graph ∙ ap (λ fs. file_of (image_of_items (built.omega p) fs)) items) in
     let jobs = c.count_of-jobs.ensures ∙ ap (count_by (λ b. b)) c.deref-6.ensures.value in
-    rebuilt c.orders_are_unique.ensures.unique now recipe last c.requires.session deps stale answers made c.in_ok-image.image.items c.count_of-jobs.result c.in_ok-source.source.items
+    rebuilt c.orders_are_unique.ensures.unique now recipe c.args.form last c.requires.session deps stale answers made c.in_ok-image.image.items c.count_of-jobs.result c.in_ok-source.source.items
     c.into_lambdas-lambdas.result.items c.in_ok-own.own.items file jobs (c.in_ok-source.ensures.items ∙ c.source.ensures.same)
     (c.into_lambdas-lambdas.ensures ∙ ap (λ (o : PlainOmega). o.lambdas) graph)
     (c.in_ok-own.ensures.items ∙ c.deref-5.ensures.value)

@@ -3,6 +3,7 @@ use Rattle.std.specs.Arc.{arc_value}
 use Rattle.std.proofs.lemmas.List.{length-map}
 use Rattle.std.proofs.lemmas.Result.{on_ok_weaker}
 use Rattle.g_pass_order.specs.Calls.{CallsAreKnown}
+use Rattle.s_linear.specs.declared.frame.CodeForm.TheVariants.{Plain}
 use Rattle.cc_emit_def.specs.Image.{frame_of, lambdas_of}
 use Rattle.cc_emit_def.proofs.lemmas.FunctionFits.{main_there}
 use Rattle.cc_view_source.specs.declared.making.Made.{Made}
@@ -24,7 +25,7 @@ pub depths-requires-clause-framed : goal.depths-requires-clause-framed
 depths-requires-clause-framed c =
     let ls = lambdas_of (map arc_value c.args.made.now.answers.items) in
     let same = c.deref-2.ensures.value ∙ (c.in_ok-lambdas.ensures ∙ ap (λ xs. lambdas_of (map arc_value xs)) c.deref.ensures.value) in
-    ap length c.requires.framed ∙ (length-map ls frame_of ∙ ap length (sym same))
+    ap length c.requires.framed ∙ (length-map ls (frame_of Plain) ∙ ap length (sym same))
 
 pub main_of-main-requires : goal.main_of-main-requires
 main_of-main-requires c =

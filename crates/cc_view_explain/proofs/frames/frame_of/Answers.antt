@@ -3,6 +3,8 @@ use Rattle.g_graph.specs.Plain.{PlainLambda}
 use Rattle.g_graph.specs.WellFormed.{all_of}
 use Rattle.s_linear.specs.Lines.{names_below}
 use Rattle.s_linear.specs.declared.frame.Frame.{Frame}
+use Rattle.s_linear.specs.declared.frame.CodeForm.TheVariants.{Plain}
+use Rattle.a_place.specs.Places.{places}
 use Rattle.cc_emit_def.proofs.lemmas.Lambdas.{names_fit, frame_fits_here}
 use Rattle.cc_view_explain.proofs.FrameLemmas.{frame-is}
 use Rattle.cc_view_explain.proofs.frames.frame_of.Goals as goal
@@ -12,8 +14,8 @@ place-requires c = subst (λ ls. IsTrue (all_of (names_below 4294967295) ls)) (s
 
 pub frame-requires : goal.frame-requires
 frame-requires c =
-    frame_fits_here c.args.lambda.now c.in_ok-linear.linear c.in_ok-places.places c.deref.result.now c.in_ok-linear.ensures c.in_ok-places.ensures
-    (c.deref.ensures.value ∙ ap (λ (l : PlainLambda). l.objects) c.lambda.view_is) c.requires
+    frame_fits_here Plain c.args.lambda.now c.in_ok-linear.linear c.in_ok-places.places c.deref.result.now c.in_ok-linear.ensures
+    (c.in_ok-places.ensures ∙ ap places c.in_ok-linear.ensures) (c.deref.ensures.value ∙ ap (λ (l : PlainLambda). l.objects) c.lambda.view_is) c.requires
 
 pub returns : goal.returns
 returns c =

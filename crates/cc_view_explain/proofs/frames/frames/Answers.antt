@@ -1,6 +1,7 @@
 use Rattle.std.proofs.Common.{◌∷◌, [], ◌++◌, map, take, sym, ap, subst, ◌∙◌}
 use Rattle.std.specs.Arc.{arc_value}
 use Rattle.g_graph.specs.Plain.{PlainOptimised}
+use Rattle.s_linear.specs.declared.frame.CodeForm.TheVariants.{Plain}
 use Rattle.cc_emit_def.specs.Image.{frame_of, lambdas_of}
 use Rattle.cc_emit_def.specs.Laws.{IsFunction}
 use Rattle.cc_view_explain.proofs.FrameLemmas.{answer_at, frames-more}
@@ -18,8 +19,8 @@ pub loop-answer-preserved : goal.loop-answer-preserved
 loop-answer-preserved c =
     let a = c.answer-item.result in
     let is = c.behind-answer.view_is ∙ c.deref.ensures in
-    let size = c.in_ok-frame_of.ensures ∙ ap (λ (o : PlainOptimised). frame_of o.lambda) is in
+    let size = c.in_ok-frame_of.ensures ∙ ap (λ (o : PlainOptimised). frame_of Plain o.lambda) is in
     c.in_ok-push.ensures.items
     ∙ (ap (λ xs. xs ++ c.in_ok-frame_of.field-0 ∷ []) c.loop-answer.invariant
-    ∙ (ap (λ s. map frame_of (lambdas_of (map arc_value (take c.loop-answer.answer-index c.args.answers.now))) ++ s ∷ []) size
+    ∙ (ap (λ s. map (frame_of Plain) (lambdas_of (map arc_value (take c.loop-answer.answer-index c.args.answers.now))) ++ s ∷ []) size
     ∙ sym (frames-more arc_value c.args.answers.now c.loop-answer.answer-index a c.loop-answer-test.true c.answer-item.is)))

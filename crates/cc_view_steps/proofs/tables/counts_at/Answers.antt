@@ -9,7 +9,7 @@ use Rattle.g_graph.specs.WellFormed.{IsWellFormed}
 use Rattle.g_pass_def.specs.Answers.{lambdas_of}
 use Rattle.g_pass_order.specs.Calls.{no_lambda}
 use Rattle.g_pass_replay.specs.Counts.{counts_of}
-use Rattle.g_pass.specs.Sweep.{rules}
+use Rattle.g_pass_replay.specs.g_pass.Sweep.{rules}
 use Rattle.cc_view_steps.proofs.tables.counts_at.Goals as goal
 
 pub callees_at-requires-clause-answered : goal.callees_at-requires-clause-answered

@@ -1,5 +1,5 @@
--- The lambda is the one after the sweeps so far, and well formed.
-use Rattle.std.proofs.Common.{◌≡◌, map, take}
+-- The sweeps that are left make of the lambda what all of them make of the first one, and it is well formed.
+use Rattle.std.proofs.Common.{◌≡◌, length, map}
 use Rattle.std.specs.Arc.{arc_value}
 use Rattle.std.specs.List.{fold}
 use Rattle.g_graph.specs.WellFormed.{IsWellFormed}
@@ -13,6 +13,9 @@ invariant-loop-rule l =
     let now : Swept = record { lambda = l.lambda; steps = l.log.items } in
     let first : Swept = record { lambda = l.initial.lambda; steps = l.initial.log.items } in
     record {
-      swept : now ≡ fold (sweep rules (lambdas_of (map arc_value l.callees))) first (take l.rule-index l.rule-items);
+      swept : fold (sweep rules (lambdas_of (map arc_value l.callees))) now l.left ≡ fold (sweep rules (lambdas_of (map arc_value l.callees))) first l.initial.left;
       kept : IsWellFormed l.lambda;
     }
+
+abbrev pub decreases-loop-rule : goal.decreases-loop-rule
+decreases-loop-rule l = length l.left

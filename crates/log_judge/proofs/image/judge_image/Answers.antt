@@ -2,7 +2,7 @@ use Rattle.std.proofs.Common.{◌<◌, ◌^◌, List, length, map, sym, ap, subs
 use Rattle.std.specs.Arc.{arc_value}
 use Rattle.g_graph.specs.Lists.{IsComplete}
 use Rattle.g_graph.specs.Plain.{PlainLambda, PlainOmega}
-use Rattle.g_pass.specs.Sweep.{rules}
+use Rattle.g_pass_keeps.specs.g_pass.Sweep.{rules}
 use Rattle.cc_emit_def.specs.Image.{file_of_program, lambdas_of, CanEmit}
 use Rattle.log_replay.specs.Right.{steps_of, AreRight}
 use Rattle.log_judge.specs.Parting.{PartAt}
@@ -38,7 +38,7 @@ returns-in-Some-clause-fault c =
     let o = c.args.omega.now in
     let ks = lambdas_of (map arc_value c.in_ok-made.made.items) in
     let lambdas = c.deref.ensures.value ∙ ap (λ (x : PlainOmega). x.lambdas) c.omega.view_is in
-    let file = c.deref-3.ensures.value ∙ (c.in_ok-file.ensures.file ∙ ap (λ xs. file_of_program o (lambdas_of (map arc_value xs))) c.deref-2.ensures.value) in
+    let file = c.deref-3.ensures.value ∙ (c.in_ok-file.ensures.file ∙ ap (λ xs. file_of_program c.args.form o (lambdas_of (map arc_value xs))) c.deref-2.ensures.value) in
     record {
       lambdas = ks;
       right = subst (λ (ls : List PlainLambda). AreRight ls c.args.log.now ks) lambdas c.in_ok-made.ensures.right;
@@ -50,7 +50,7 @@ returns-clause-image c =
     let o = c.args.omega.now in
     let ks = lambdas_of (map arc_value c.in_ok-made.made.items) in
     let lambdas = c.deref.ensures.value ∙ ap (λ (x : PlainOmega). x.lambdas) c.omega.view_is in
-    let file = c.deref-3.ensures.value ∙ (c.in_ok-file.ensures.file ∙ ap (λ xs. file_of_program o (lambdas_of (map arc_value xs))) c.deref-2.ensures.value) in
+    let file = c.deref-3.ensures.value ∙ (c.in_ok-file.ensures.file ∙ ap (λ xs. file_of_program c.args.form o (lambdas_of (map arc_value xs))) c.deref-2.ensures.value) in
     record {
       lambdas = ks;
       right = subst (λ (ls : List PlainLambda). AreRight ls c.args.log.now ks) lambdas c.in_ok-made.ensures.right;

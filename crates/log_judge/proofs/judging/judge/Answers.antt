@@ -2,7 +2,7 @@ use Rattle.std.proofs.Common.{◌<◌, ◌^◌}
 use Rattle.std.proofs.lemmas.List.Elements.{All-from_get_or}
 use Rattle.std.proofs.lemmas.Result.{IfOk-weaker}
 use Rattle.g_build_def.specs.Functions.{graph}
-use Rattle.g_pass.specs.Sweep.{rules}
+use Rattle.g_pass_keeps.specs.g_pass.Sweep.{rules}
 use Rattle.log_replay.specs.Right.{steps_of}
 use Rattle.log_judge.proofs.Told.{keeps}
 use Rattle.log_judge.proofs.judging.judge.Goals as goal
@@ -16,5 +16,5 @@ returns-clause-certified c =
     IfOk-weaker c.judge_typed-judged.result _ _
     (λ x h.
     let kept = c.replayed_keep_lists.ensures.kept rules c.rules_are_steps.ensures (graph p) (steps_of h.functions) h.lambdas own.program.complete h.right.replayed in
-    keeps c.args.source.now c.args.log.now c.args.image.now p told.accepted h (c.kept_lists_keep_meaning.ensures c.args.source.now bytes p told.accepted h.lambdas kept))
+    keeps c.args.source.now c.args.form c.args.log.now c.args.image.now p told.accepted h (c.kept_lists_keep_meaning.ensures c.args.form c.args.source.now bytes p told.accepted h.lambdas kept))
     c.judge_typed-judged.ensures.certified

@@ -28,5 +28,5 @@ returns-clause-certified c =
     let told = c.in_ok-read.ensures in
     let read : IsRead log functions = record { short = told.short; text = told.read; lines = told.lines } in
     let named = subst (λ l. names_of_log l ≡ names p) (c.deref.ensures.value ∙ c.read.view_is) c.in-None.ensures.none in
-    IfOk-weaker c.judge_image.result _ (λ x. IsCertified p log image)
-    (λ x h. certified p log image functions read named (subst (λ o. IsImageOf o functions image) c.in_ok-omega-in-None.ensures h)) c.judge_image.ensures.image
+    IfOk-weaker c.judge_image.result _ (λ x. IsCertified p c.args.form log image)
+    (λ x h. certified p c.args.form log image functions read named (subst (λ o. IsImageOf o c.args.form functions image) c.in_ok-omega-in-None.ensures h)) c.judge_image.ensures.image

@@ -1,31 +1,8 @@
-use Rattle.std.proofs.Common.{sym, subst}
-use Rattle.g_graph.specs.Plain.{PlainLambda}
-use Rattle.g_graph.specs.WellFormed.{IsWellFormed}
-use Rattle.g_graph.specs.Program.{lambda_values, KeepsPrograms}
-use Rattle.r_edit.specs.Size.{IsNoLarger}
-use Rattle.g_mean.specs.Edits.{KeepsMeaning, KeepsComplete}
-use Rattle.r_fold.proofs.Fewer.{fold_is_no_larger}
-use Rattle.r_fold.proofs.Keeps.{fold_well_formed}
-use Rattle.r_fold.proofs.Lists.{fold_keeps_lists, fold_keeps_program}
-use Rattle.r_fold.proofs.Meaning.{fold_keeps}
+use Rattle.r_fold.proofs.Fewer.{fold_is_safe, fold_stays}
 use Rattle.r_fold.proofs.rule.apply.Goals as goal
 
-pub returns-clause-kept : goal.returns-clause-kept
-returns-clause-kept c =
-    subst (λ (l : PlainLambda). IsWellFormed l) (sym c.in_ok-change_lambda.ensures.ok) (fold_well_formed c.args.node c.args.lambda.now c.requires.well_formed)
+pub apply-requires-clause-safe : goal.apply-requires-clause-safe
+apply-requires-clause-safe c = fold_is_safe c.args.node c.args.lambda.now
 
-pub returns-clause-meaning : goal.returns-clause-meaning
-returns-clause-meaning c =
-    subst (λ (l : PlainLambda). KeepsMeaning c.args.lambda.now l) (sym c.in_ok-change_lambda.ensures.ok) (fold_keeps c.args.node c.args.lambda.now c.requires.well_formed)
-
-pub returns-clause-list : goal.returns-clause-list
-returns-clause-list c =
-    subst (λ (l : PlainLambda). KeepsComplete c.args.lambda.now l) (sym c.in_ok-change_lambda.ensures.ok) (fold_keeps_lists c.args.node c.args.lambda.now c.requires.well_formed)
-
-pub returns-clause-program : goal.returns-clause-program
-returns-clause-program c =
-    subst (λ (l : PlainLambda). KeepsPrograms c.args.lambda.now l) (sym c.in_ok-change_lambda.ensures.ok) (fold_keeps_program c.args.node c.args.lambda.now c.requires.well_formed)
-
-pub returns-clause-size : goal.returns-clause-size
-returns-clause-size c =
-    subst (λ (l : PlainLambda). IsNoLarger (lambda_values c.args.lambda.now) (lambda_values l)) (sym c.in_ok-change_lambda.ensures.ok) (fold_is_no_larger c.args.node c.args.lambda.now)
+pub apply-requires-clause-stays : goal.apply-requires-clause-stays
+apply-requires-clause-stays c = fold_stays c.args.node c.args.lambda.now c.requires.well_formed

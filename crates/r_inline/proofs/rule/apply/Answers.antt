@@ -21,6 +21,3 @@ pub returns-clause-step : goal.returns-clause-step
 returns-clause-step c =
     iln-step c.args.node c.args.callee.now c.args.lambda.now (Lambda.the_view c.lambda-2.inside) c.in_ok-copy.copy.next c.requires.callee
     c.requires.well_formed c.requires.applies (returns-clause-ok c)
-
-pub returns-clause-kept : goal.returns-clause-kept
-returns-clause-kept c = (returns-clause-step c).well_formed

@@ -1,23 +1,9 @@
 use Rattle.std.proofs.Common.{sym, subst}
 use Rattle.g_graph.specs.Plain.{PlainLambda}
-use Rattle.g_graph.specs.WellFormed.{IsWellFormed}
-use Rattle.g_graph.specs.Program.{lambda_values, KeepsPrograms}
-use Rattle.g_mean.specs.Edits.{KeepsMeaning, KeepsComplete}
-use Rattle.r_edit.specs.Size.{IsNoLarger}
-use Rattle.r_pull.proofs.Step.{pll_well_formed, pll_keeps, pll_keeps_lists, pll_keeps_program, pll_is_no_larger}
+use Rattle.r_edit.specs.Steps.{MayStandFor}
+use Rattle.r_pull.proofs.Step.{pll_is_a_step}
 use Rattle.r_pull.proofs.rule.apply.Goals as goal
 
-pub returns-clause-kept : goal.returns-clause-kept
-returns-clause-kept c = subst (λ (l : PlainLambda). IsWellFormed l) (sym c.in_ok-pull.ensures.ok) (pll_well_formed c.args.node c.args.lambda.now c.requires.well_formed)
-
-pub returns-clause-meaning : goal.returns-clause-meaning
-returns-clause-meaning c = subst (λ (l : PlainLambda). KeepsMeaning c.args.lambda.now l) (sym c.in_ok-pull.ensures.ok) (pll_keeps c.args.node c.args.lambda.now c.requires.well_formed)
-
-pub returns-clause-list : goal.returns-clause-list
-returns-clause-list c = subst (λ (l : PlainLambda). KeepsComplete c.args.lambda.now l) (sym c.in_ok-pull.ensures.ok) (pll_keeps_lists c.args.node c.args.lambda.now c.requires.well_formed)
-
-pub returns-clause-program : goal.returns-clause-program
-returns-clause-program c = subst (λ (l : PlainLambda). KeepsPrograms c.args.lambda.now l) (sym c.in_ok-pull.ensures.ok) (pll_keeps_program c.args.node c.args.lambda.now c.requires.well_formed)
-
-pub returns-clause-size : goal.returns-clause-size
-returns-clause-size c = subst (λ (l : PlainLambda). IsNoLarger (lambda_values c.args.lambda.now) (lambda_values l)) (sym c.in_ok-pull.ensures.ok) (pll_is_no_larger c.args.node c.args.lambda.now)
+pub returns-clause-step : goal.returns-clause-step
+returns-clause-step c =
+    λ held. subst (λ (l : PlainLambda). MayStandFor held c.args.lambda.now l) (sym c.in_ok-pull.ensures.ok) (pll_is_a_step held c.args.node c.args.lambda.now c.requires.well_formed)

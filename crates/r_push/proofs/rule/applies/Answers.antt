@@ -8,6 +8,6 @@ use Rattle.r_push.proofs.rule.applies.Goals as goal
 
 pub returns : goal.returns
 returns c =
-    c.can_change_lambda.ensures
+    c.applies.ensures
     ∙ ap (λ h. is_some (region_changed h c.args.lambda.now.body))
     (ap (λ v. psh_here v c.args.node) c.values.ensures ∙ limit_same (lambda_values c.args.lambda.now) c.args.node)

@@ -2,16 +2,13 @@ use Rattle.std.specs.Prelude.{is_some, option_map}
 use Rattle.std.proofs.Common.{◌≡◌, true, sym, ap, subst, ◌∙◌}
 use Rattle.g_graph.specs.Plain.{PlainLambda}
 use Rattle.g_graph.specs.Change.{lambda_changed}
-use Rattle.g_graph.specs.Program.{lambda_values, KeepsPrograms}
-use Rattle.g_graph.specs.WellFormed.{IsWellFormed}
 use Rattle.g_graph.specs.contracts.lambda.Lambda as Lambda
 use Rattle.g_mean.specs.Copies.{IsClosed}
-use Rattle.g_mean.specs.Edits.{KeepsMeaning, KeepsComplete}
-use Rattle.r_edit.specs.Size.{IsNoLarger}
 use Rattle.r_edit.specs.Found.{region_found}
+use Rattle.r_edit.specs.Steps.{MayStandFor}
 use Rattle.r_unroll.specs.Edit.{loop_at, followed_at, results_after, next_after}
 use Rattle.r_unroll.specs.Rule.{second_turn_of}
-use Rattle.r_unroll.proofs.Kept.{url_well_formed, url_keeps, url_keeps_lists, url_keeps_program, url_is_no_larger}
+use Rattle.r_unroll.proofs.Kept.{url_is_a_step}
 use Rattle.r_unroll.proofs.Made.{body-closed, applies-finds, url-is}
 use Rattle.r_unroll.proofs.rule.apply.Goals as goal
 
@@ -33,18 +30,6 @@ returns-clause-ok c =
     (c.lambda-2.view_is ∙ c.in_ok-change_lambda.ensures.ok
     ∙ ap (λ (k : PlainLambda). lambda_changed (followed_at c.values-values.result k.next c.args.node c.in_ok-turn.turn.last c.in_ok-turn.turn.results.items) c.args.lambda.now) c.lambda.view_is)
 
-pub returns-clause-kept : goal.returns-clause-kept
-returns-clause-kept c = subst (λ (l : PlainLambda). IsWellFormed l) (sym (returns-clause-ok c)) (url_well_formed c.args.node c.args.lambda.now c.requires.well_formed)
-
-pub returns-clause-meaning : goal.returns-clause-meaning
-returns-clause-meaning c = subst (λ (l : PlainLambda). KeepsMeaning c.args.lambda.now l) (sym (returns-clause-ok c)) (url_keeps c.args.node c.args.lambda.now c.requires.well_formed)
-
-pub returns-clause-list : goal.returns-clause-list
-returns-clause-list c = subst (λ (l : PlainLambda). KeepsComplete c.args.lambda.now l) (sym (returns-clause-ok c)) (url_keeps_lists c.args.node c.args.lambda.now c.requires.well_formed)
-
-pub returns-clause-program : goal.returns-clause-program
-returns-clause-program c = subst (λ (l : PlainLambda). KeepsPrograms c.args.lambda.now l) (sym (returns-clause-ok c)) (url_keeps_program c.args.node c.args.lambda.now c.requires.well_formed)
-
-pub returns-clause-size : goal.returns-clause-size
-returns-clause-size c =
-    subst (λ (l : PlainLambda). IsNoLarger (lambda_values c.args.lambda.now) (lambda_values l)) (sym (returns-clause-ok c)) (url_is_no_larger c.args.node c.args.lambda.now)
+pub returns-clause-step : goal.returns-clause-step
+returns-clause-step c =
+    λ held. subst (λ (l : PlainLambda). MayStandFor held c.args.lambda.now l) (sym (returns-clause-ok c)) (url_is_a_step held c.args.node c.args.lambda.now c.requires.well_formed)

@@ -15,6 +15,6 @@ returns-in-Some-clause-rebuilt g c =
     let image = c.in-Some.image.now in
     let kept = subst (λ (s : List ℕ). IsImageKept c.self.inside.last s image) c.source.ensures.same c.in-Some.ensures in
     let law = c.orders_are_unique.ensures.ranked in
-    let made = rebuilt-again now c.self.inside.recipe c.self.inside.last image kept law c.self.invariant c.args.self.now (sym c.self.view_is) in
+    let made = rebuilt-again now c.self.inside.recipe c.self.inside.form c.self.inside.last image kept law c.self.invariant c.args.self.now (sym c.self.view_is) in
     both c.rebuild_again.result _ _ (λ it. IsRebuilt c.args.self.now it.image.items it.jobs) (λ it same none. made it.image.items it.jobs same none) c.rebuild_again.ensures.image
     c.rebuild_again.ensures.jobs

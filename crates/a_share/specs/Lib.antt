@@ -1,0 +1,17 @@
+pub mod Bounds
+pub mod Changes
+pub mod Rows
+pub mod Walking
+pub mod Unions
+pub mod Pairs
+pub mod Walk
+pub mod Sums
+pub mod Counts
+pub mod Added
+pub mod Held
+pub mod Tables
+pub mod Sound
+pub mod Facts
+pub mod Giving
+pub mod Walked
+pub mod Chosen

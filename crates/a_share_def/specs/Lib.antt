@@ -1,0 +1,4 @@
+pub mod Share
+pub mod Marks
+pub mod Laws
+pub mod Turns

@@ -1,9 +1,0 @@
-use Rattle.r_cne.proofs.Cne.{cne_replaces}
-use Rattle.r_cne.proofs.Same.{cne_means_the_same}
-use Rattle.r_cne.proofs.laws.cne_replaces.Goals as goal
-
-pub returns-clause-same : goal.returns-clause-same
-returns-clause-same c = cne_means_the_same
-
-pub returns-clause-replaces : goal.returns-clause-replaces
-returns-clause-replaces c = cne_replaces
