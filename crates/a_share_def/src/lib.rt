@@ -3,4 +3,7 @@
 //! Always: names that clash have different places.
 #![tactic(auto)]
 
+// What is passed on of the libraries below.
+pub use a_place;
+
 pub mod laws;

@@ -6,9 +6,9 @@ ghost use Rattle.c_typed.specs.WellTyped.{int};
 ghost use Rattle.c_operator_def.specs.Types.{same_type};
 ghost use Rattle.c_check_def.specs.Check.{has_main, is_main};
 
+use c_check_external::c_operator::same_type;
 use c_check_state::State;
 use c_lex::Name;
-use c_operator::same_type;
 use c_type::{CType, Scalar};
 use c_typed::TFunction;
 use no_memory::NoMemory;

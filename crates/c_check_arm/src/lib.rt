@@ -3,6 +3,9 @@
 //! each form of a statement, and of the slots that statements add.
 #![tactic(auto)]
 
+// What is passed on of the libraries below.
+pub use c_check_clause;
+
 mod forms;
 mod jumps;
 

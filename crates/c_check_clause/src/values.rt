@@ -22,7 +22,7 @@ pub fn whole(state: &mut State, offset: u32, a: Term) -> Result<Option<TExpr>, N
 {
     match a.operand {
         Some(a) => {
-            let e = c_operator::value(state.alloc(), Box::into_inner(a))?;
+            let e = c_check_expression::c_operator::value(state.alloc(), Box::into_inner(a))?;
             Ok(or_broken(state, offset, e))
         }
         None => Ok(None),
@@ -37,7 +37,7 @@ pub fn condition(state: &mut State, offset: u32, a: Term) -> Result<Option<TExpr
 {
     match a.operand {
         Some(a) => {
-            let e = c_operator::condition(state.alloc(), Box::into_inner(a))?;
+            let e = c_check_expression::c_operator::condition(state.alloc(), Box::into_inner(a))?;
             Ok(or_broken(state, offset, e))
         }
         None => Ok(None),
@@ -78,8 +78,8 @@ fn or_broken(state: &mut State, offset: u32, e: Option<TExpr>) -> Option<TExpr>
 fn integer_of(alloc: Global, a: Box<Operand>) -> Result<Option<TExpr>, NoMemory>
     ensures { IfOk result (λ r. r ≡ integer_of a.value) }
 {
-    match c_operator::value(alloc, Box::into_inner(a))? {
-        Some(e) => c_operator::plus(alloc, Box::new(alloc, e)?),
+    match c_check_expression::c_operator::value(alloc, Box::into_inner(a))? {
+        Some(e) => c_check_expression::c_operator::plus(alloc, Box::new(alloc, e)?),
         None => Ok(None),
     }
 }

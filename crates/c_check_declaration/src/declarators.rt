@@ -12,8 +12,8 @@ use crate::dimensions::open_dimensions;
 use crate::variables::initialise_variable;
 use c_ast::{Declarator, Identifier, Initializer, Locals, Next};
 use c_check_def::{Dimension, Meaning};
+use c_check_expression::c_check_type::{Specified, object_type, specified_type};
 use c_check_state::{MaybeType, State};
-use c_check_type::{Specified, object_type, specified_type};
 use c_typed::{Declaration, Initial, Item};
 use no_memory::NoMemory;
 

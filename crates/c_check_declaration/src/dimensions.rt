@@ -11,9 +11,9 @@ ghost use Rattle.c_check_declaration.specs.Bounds.{bound_dimension};
 
 use c_ast::{Expr, OpenDimension};
 use c_check_def::Dimension;
+use c_check_expression::c_check_term::size;
 use c_check_expression::expression;
 use c_check_state::State;
-use c_check_term::size;
 use no_memory::NoMemory;
 
 /// The dimensions of a declarator, whose sizes are constants, the outermost first (ISO/IEC

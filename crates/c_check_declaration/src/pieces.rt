@@ -9,8 +9,8 @@ ghost use Rattle.c_typed.specs.ProgramEncoding.{written_of as written_tree};
 ghost use Rattle.c_check_def.specs.Initialisers.{joined, value_at, initial_of, written_of, written_value};
 ghost use Rattle.c_check_declaration.specs.Pieces.{trees_of, value_or_elements, written_link};
 
+use c_check_expression::c_operator::expr_word;
 use c_lex::Bytes;
-use c_operator::expr_word;
 use c_type::{CType, Scalar, TypeForm};
 use c_typed::{Element, ExprForm, Initial, PlaceForm, TExpr, TPlace, Written};
 use no_memory::NoMemory;

@@ -13,3 +13,7 @@ pub mod Externals
 pub mod Limits
 pub mod Check
 pub mod CheckLaws
+-- What is passed on of the libraries below.
+pub use Rattle.c_operator_def.specs as c_operator_def
+pub use Rattle.c_operator_def.specs.c_type
+pub use Rattle.c_operator_def.specs.c_typed

@@ -3,6 +3,10 @@
 //! runs.
 #![tactic(auto)]
 
+// What is passed on of the libraries below.
+pub use c_operator_def;
+pub use c_operator_def::{c_type, c_typed};
+
 mod call;
 mod dimension;
 mod meaning;

@@ -5,6 +5,11 @@
 //! Always: no struct is defined and no variable added.
 #![tactic(auto)]
 
+// What is passed on of the libraries below.
+pub use c_check_term;
+pub use c_check_term::c_operator;
+pub use c_check_type;
+
 mod arguments;
 mod calls;
 mod commas;

@@ -2,7 +2,7 @@
 
 ghost use Rattle.std.specs.Prelude.{◌≡◌, true, false, option_map, IfOk, OnOk};
 ghost use Rattle.c_ast.specs.Expressions.{expr_tree, list_tree, type_tree};
-ghost use Rattle.c_operator_def.specs.Operands.{operand_type};
+ghost use Rattle.c_check_def.specs.c_operator_def.Operands.{operand_type};
 ghost use Rattle.c_check_def.specs.State.{after};
 ghost use Rattle.c_check_def.specs.Operands.{indexed, selected, stepped, unary, measured, cast, binary, conditional, assigned};
 ghost use Rattle.c_check_def.specs.Expressions.{expression, expressions, type_name};

@@ -21,7 +21,7 @@ use Rattle.c_ast.specs.Expressions.{next}
 use Rattle.c_ast.specs.Specifiers.{constant, base_tree, spec_tree}
 use Rattle.c_ast.specs.Declarations.{open_dimension}
 use Rattle.c_ast.specs.Externals.{AreNone, param as param_tree, params as params_tree}
-use Rattle.c_check_expression.proofs.lemmas.Lists.{count_many}
+use Rattle.c_check_declaration.proofs.of_c_check_expression.lemmas.Lists.{count_many}
 use Rattle.c_check_def.specs.Leaves.{count_of}
 use Rattle.c_check_def.specs.State.{State, pure}
 use Rattle.c_check_def.specs.Externals.{Param, is_lone_void, param, more_params, params}

@@ -10,7 +10,7 @@ use Rattle.c_ast.specs.Expressions.{next, dimensions as dimension_trees}
 use Rattle.c_ast.specs.Externals.{member as member_tree, members as members_tree, more_members as member_trees}
 use Rattle.c_ast.specs.Specifiers.{spec_tree}
 use Rattle.c_ast.proofs.lemmas.Lists.{many-none, many-snoc}
-use Rattle.c_check_expression.proofs.lemmas.Lists.{count_many}
+use Rattle.c_check_declaration.proofs.of_c_check_expression.lemmas.Lists.{count_many}
 use Rattle.c_check_scope.specs.Scopes.{Name}
 use Rattle.c_check_def.specs.declared.dimension.Dimension.{Dimension}
 use Rattle.c_check_def.specs.declared.dimension.Dimension.TheVariants as dimension

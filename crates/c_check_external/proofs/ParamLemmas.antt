@@ -13,7 +13,7 @@ use Rattle.c_ast.specs.Declarations.{open_dimensions as dimension_trees}
 use Rattle.c_ast.specs.Externals.{param as param_tree}
 use Rattle.c_ast.specs.Specifiers.{constant, spec_tree}
 use Rattle.c_ast.proofs.lemmas.Lists.{many-none, many-snoc}
-use Rattle.c_check_expression.proofs.lemmas.Lists.{count_many}
+use Rattle.c_check_declaration.proofs.of_c_check_expression.lemmas.Lists.{count_many}
 use Rattle.c_check_scope.specs.Scopes.{Name}
 use Rattle.c_check_def.specs.State.{State}
 use Rattle.c_check_def.specs.Leaves.{begin_of, is_present}

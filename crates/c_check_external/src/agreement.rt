@@ -5,8 +5,8 @@ ghost use Rattle.std.specs.Option.{option_copied};
 ghost use Rattle.c_check_def.specs.Externals.{Param as Record, agree, all_agree, may_follow};
 
 use crate::param::Param;
+use c_check_declaration::c_operator::same_type;
 use c_check_state::{Declared, MaybeType};
-use c_operator::same_type;
 
 // Whether a function may be declared like this after its earlier declaration (ISO/IEC 9899:2011,
 // 6.7p4, 6.9p3).

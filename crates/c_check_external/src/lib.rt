@@ -5,7 +5,7 @@
 #![tactic(auto)]
 
 // What is passed on of the libraries below.
-pub use c_check_type;
+pub use c_check_declaration::{c_check_type, c_operator};
 
 mod agreement;
 mod bindings;

@@ -8,10 +8,10 @@ ghost use Rattle.c_check_external.specs.Structs.{member_typed, members_trees};
 
 use crate::member_list::MemberList;
 use c_ast::{Identifier, Member, Members, Next};
+use c_check_declaration::c_check_expression::dimensions;
+use c_check_declaration::c_check_type::{Specified, object_type, specified_type};
 use c_check_def::{Dimension, RefusalKind};
-use c_check_expression::dimensions;
 use c_check_state::{MaybeType, State};
-use c_check_type::{Specified, object_type, specified_type};
 use no_memory::NoMemory;
 use std::alloc::Global;
 

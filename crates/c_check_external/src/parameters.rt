@@ -15,10 +15,10 @@ ghost use Rattle.c_check_external.specs.Params.{param_named, param_typed, param_
 
 use crate::param::Param;
 use c_ast::{Identifier, Next, Params};
+use c_check_declaration::c_check_type::{Specified, param_type, specified_type};
 use c_check_declaration::{is_fixed, open_dimensions};
 use c_check_def::{Dimension, Meaning};
 use c_check_state::{MaybeType, State};
-use c_check_type::{Specified, param_type, specified_type};
 use c_lex::Name;
 use no_memory::NoMemory;
 

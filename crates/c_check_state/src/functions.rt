@@ -9,8 +9,8 @@ ghost use Rattle.c_check_def.specs.State.{changed};
 use crate::declared::Declared;
 use crate::state::State;
 use c_check_def::Meaning;
-use c_lex::Name;
-use c_typed::TFunction;
+use c_check_def::c_typed::TFunction;
+use c_check_scope::c_lex::Name;
 use no_memory::NoMemory;
 
 impl State {

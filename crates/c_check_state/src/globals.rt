@@ -2,12 +2,12 @@
 
 ghost use Rattle.std.specs.Prelude.{◌≡◌, IfOk, OnOk, slice_get, map};
 ghost use Rattle.std.specs.Option.{option_copied};
-ghost use Rattle.c_typed.specs.ProgramEncoding.{written_of};
+ghost use Rattle.c_check_def.specs.c_typed.ProgramEncoding.{written_of};
 ghost use Rattle.c_check_def.specs.State.{global_type, add_global, change_global};
 
 use crate::maybe_type::MaybeType;
 use crate::state::State;
-use c_typed::Written;
+use c_check_def::c_typed::Written;
 use no_memory::NoMemory;
 use std::marker::Model;
 
@@ -32,7 +32,7 @@ impl Model for GlobalObject {
     ghost coded = { coded_global };
 
     ghost use Rattle.std.specs.Prelude.{map};
-    ghost use Rattle.c_typed.specs.ProgramEncoding.{written_of};
+    ghost use Rattle.c_check_def.specs.c_typed.ProgramEncoding.{written_of};
 
     ghost view = { λ g. record {
       offset = g.offset;

@@ -2,7 +2,7 @@
 
 ghost use Rattle.std.specs.Prelude.{◌≡◌, None, Some, IfOk, MatchOption};
 
-use c_type::CType;
+use c_check_def::c_type::CType;
 use no_memory::NoMemory;
 use std::alloc::Global;
 use std::marker::Model;

@@ -8,7 +8,7 @@ ghost use Rattle.c_check_def.specs.Externals.{bind, declare_tag};
 
 use crate::state::State;
 use c_check_def::{Meaning, RefusalKind};
-use c_lex::Name;
+use c_check_scope::c_lex::Name;
 use no_memory::NoMemory;
 
 impl State {

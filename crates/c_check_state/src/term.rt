@@ -2,7 +2,7 @@
 
 ghost use Rattle.std.specs.Prelude.{◌≡◌, None, Some, IfOk};
 
-use c_operator_def::Operand;
+use c_check_def::c_operator_def::Operand;
 use no_memory::NoMemory;
 use std::alloc::Global;
 use std::marker::Model;

@@ -6,7 +6,7 @@ use Rattle.c_ast.specs.declared.statement.Stmt.{Stmt}
 use Rattle.c_ast.specs.Productions as l
 use Rattle.c_ast.specs.Statements.{stmt_tree, item_tree, items_tree, stmts_tree, group_tree, groups_tree}
 use Rattle.c_ast.proofs.lemmas.Lists.{many-none}
-use Rattle.c_check_expression.proofs.lemmas.Lists.{many_next}
+use Rattle.c_check_declaration.proofs.of_c_check_expression.lemmas.Lists.{many_next}
 use Rattle.c_typed.specs.Typed.{ItemTrees, GroupTrees, no_items, no_groups, stmt_then}
 use Rattle.c_check_def.specs.State.{State, after}
 use Rattle.c_check_def.specs.Declarators.{items_joined}

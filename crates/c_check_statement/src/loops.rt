@@ -9,8 +9,8 @@ ghost use Rattle.c_check_arm.specs.Parts.{jumps_of, loop, while_statement, do_st
 
 use crate::statements::statement;
 use c_ast::{ExprList, ForClauses, ForStart, Stmt};
+use c_check_arm::c_check_clause::{condition_at, condition_clause, value_clause};
 use c_check_arm::{IN_LOOP, do_stmt, value_items};
-use c_check_clause::{condition_at, condition_clause, value_clause};
 use c_check_declaration::locals;
 use c_check_state::{MaybeType, State};
 use c_typed::{Item, StmtForm, TExpr, TStmt};

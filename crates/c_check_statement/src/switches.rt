@@ -9,8 +9,8 @@ ghost use Rattle.c_check_arm.specs.Parts.{jumps_of, switch_statement, group_item
 
 use crate::blocks::{statement_item, statements};
 use c_ast::{Group, Subject};
+use c_check_arm::c_check_clause::{Labels, group_labels, subject_at};
 use c_check_arm::{Jumps, add_group, switch_stmt};
-use c_check_clause::{Labels, group_labels, subject_at};
 use c_check_state::{MaybeType, State};
 use c_typed::{Group as TGroup, Item, TStmt};
 use no_memory::NoMemory;

@@ -1,10 +1,10 @@
 -- Binary operators on integers and on pointers (ISO/IEC 9899:2011, 6.5.5 to 6.5.12), by the types of their operands.
 use Rattle.std.specs.Prelude.{Bool, if◌then◌else◌, Option, None, Some, option_map}
-use Rattle.val_core.specs.declared.operation.Op2.{Op2}
-use Rattle.val_core.specs.declared.operation.Op2.TheVariants as op
-use Rattle.c_type.specs.declared.scalar.Scalar.{Scalar}
-use Rattle.c_type.specs.Trees.{TypeTree, scalar_type, pointer_to}
-use Rattle.c_type.specs.Layout.{Definitions}
+use Rattle.c_typed.specs.val_core.declared.operation.Op2.{Op2}
+use Rattle.c_typed.specs.val_core.declared.operation.Op2.TheVariants as op
+use Rattle.c_typed.specs.c_type.declared.scalar.Scalar.{Scalar}
+use Rattle.c_typed.specs.c_type.Trees.{TypeTree, scalar_type, pointer_to}
+use Rattle.c_typed.specs.c_type.Layout.{Definitions}
 use Rattle.c_typed.specs.declared.operator.Relation.{Relation}
 use Rattle.c_typed.specs.declared.operator.BinaryOp.{BinaryOp}
 use Rattle.c_typed.specs.declared.operator.BinaryOp.TheVariants as binary_op

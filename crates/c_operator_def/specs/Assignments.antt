@@ -1,14 +1,14 @@
 -- Assignments, `++` and `--` (ISO/IEC 9899:2011, 6.5.16, 6.5.2.4, 6.5.3.1). Their target is a scalar lvalue that is not
 -- const.
 use Rattle.std.specs.Prelude.{ℕ, Bool, true, false, if◌then◌else◌, Option, None, Some, option_map, option_and_then}
-use Rattle.val_core.specs.declared.operation.Op2.{Op2}
-use Rattle.val_core.specs.declared.operation.Op2.TheVariants as op
+use Rattle.c_typed.specs.val_core.declared.operation.Op2.{Op2}
+use Rattle.c_typed.specs.val_core.declared.operation.Op2.TheVariants as op
 use Rattle.c_ast.specs.declared.operator.IncDec.{IncDec}
 use Rattle.c_ast.specs.declared.operator.IncDec.TheVariants as step_operator
 use Rattle.c_ast.specs.declared.operator.AssignOp.{AssignOp}
 use Rattle.c_ast.specs.declared.operator.AssignOp.TheVariants as assign_operator
-use Rattle.c_type.specs.Trees.{TypeTree, scalar_type, pointer_to}
-use Rattle.c_type.specs.Layout.{Definitions}
+use Rattle.c_typed.specs.c_type.Trees.{TypeTree, scalar_type, pointer_to}
+use Rattle.c_typed.specs.c_type.Layout.{Definitions}
 use Rattle.c_typed.specs.declared.operator.CompoundOp.{CompoundOp}
 use Rattle.c_typed.specs.declared.operator.CompoundOp.TheVariants as compound_op
 use Rattle.c_typed.specs.Typed.{ExprTree, expr, assign, compound, inc_dec, PlaceTree}

@@ -1,12 +1,12 @@
 -- Integer constant expressions (ISO/IEC 9899:2011, 6.6p6) and null pointer constants (6.3.2.3p3). Whether an expression has
 -- the form of one, and what it is worth, are apart: `0 && 1 / 0` has the form and is 0, and `0 && x` has not the form.
 use Rattle.std.specs.Prelude.{ℕ, ◌-◌, ◌^◌, ◌==◌, ◌&&◌, not, nat_lt, Bool, true, false, if◌then◌else◌, Option, None, Some, option_map, option_and_then, int_lt}
-use Rattle.val_core.specs.Words.{word1, word2, signed, one_if}
-use Rattle.val_core.specs.declared.operation.Op1.TheVariants.{Sext8, Zext8, Sext16, Zext16}
-use Rattle.val_core.specs.declared.operation.Op2.{Op2}
-use Rattle.val_core.specs.declared.operation.Op2.TheVariants as op
-use Rattle.c_type.specs.declared.scalar.Scalar.TheVariants.{Char, SignedChar, UnsignedChar, Short, UnsignedShort, UnsignedInt}
-use Rattle.c_type.specs.Trees.{TypeTree, scalar_type}
+use Rattle.c_typed.specs.val_core.Words.{word1, word2, signed, one_if}
+use Rattle.c_typed.specs.val_core.declared.operation.Op1.TheVariants.{Sext8, Zext8, Sext16, Zext16}
+use Rattle.c_typed.specs.val_core.declared.operation.Op2.{Op2}
+use Rattle.c_typed.specs.val_core.declared.operation.Op2.TheVariants as op
+use Rattle.c_typed.specs.c_type.declared.scalar.Scalar.TheVariants.{Char, SignedChar, UnsignedChar, Short, UnsignedShort, UnsignedInt}
+use Rattle.c_typed.specs.c_type.Trees.{TypeTree, scalar_type}
 use Rattle.c_typed.specs.declared.operator.Relation.{Relation}
 use Rattle.c_typed.specs.declared.operator.Relation.TheVariants as relation
 use Rattle.c_typed.specs.declared.operator.UnaryOp.{UnaryOp}

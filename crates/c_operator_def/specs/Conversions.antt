@@ -1,7 +1,7 @@
 -- Conversions (ISO/IEC 9899:2011, 6.3), which stand only between different types.
 use Rattle.std.specs.Prelude.{Bool, true, false, if◌then◌else◌, Option, None, Some}
-use Rattle.c_type.specs.declared.scalar.Scalar.{Scalar}
-use Rattle.c_type.specs.Trees.{TypeTree, scalar_type, pointer_to}
+use Rattle.c_typed.specs.c_type.declared.scalar.Scalar.{Scalar}
+use Rattle.c_typed.specs.c_type.Trees.{TypeTree, scalar_type, pointer_to}
 use Rattle.c_typed.specs.declared.operator.UnaryOp.TheVariants as unary_op
 use Rattle.c_typed.specs.Typed.{ExprTree, expr, unary}
 use Rattle.c_typed.specs.WellTyped.{type_of}

@@ -1,6 +1,6 @@
 -- Operands (ISO/IEC 9899:2011, 6.3.2.1): what their values are, and which may be assigned.
 use Rattle.std.specs.Prelude.{Bool, false, not, ◌&&◌, if◌then◌else◌, Option, None, Some}
-use Rattle.c_type.specs.Trees.{TypeTree, scalar_type, pointer_to, array_of}
+use Rattle.c_typed.specs.c_type.Trees.{TypeTree, scalar_type, pointer_to, array_of}
 use Rattle.c_typed.specs.Typed.{ExprTree, expr, read, address, PlaceTree}
 use Rattle.c_typed.specs.WellTyped.{type_of, place_type}
 use Rattle.c_operator_def.specs.Types.{is_scalar}

@@ -1,15 +1,15 @@
 -- What an operator makes of operands (ISO/IEC 9899:2011, 6.5): a typed expression, an lvalue, or none where the operands
 -- are not those that it takes.
 use Rattle.std.specs.Prelude.{ℕ, ◌||◌, Bool, false, if◌then◌else◌, slice_get, Option, None, Some, option_map, option_and_then}
-use Rattle.val_core.specs.declared.operation.Op2.TheVariants as op
+use Rattle.c_typed.specs.val_core.declared.operation.Op2.TheVariants as op
 use Rattle.c_ast.specs.declared.operator.Selection.{Selection}
 use Rattle.c_ast.specs.declared.operator.Selection.TheVariants as selection
 use Rattle.c_ast.specs.declared.operator.UnaryOp.{UnaryOp}
 use Rattle.c_ast.specs.declared.operator.UnaryOp.TheVariants as unary_operator
 use Rattle.c_ast.specs.declared.operator.BinaryOp.{BinaryOp}
 use Rattle.c_ast.specs.declared.operator.BinaryOp.TheVariants as binary_operator
-use Rattle.c_type.specs.Trees.{TypeTree, void_type, scalar_type, pointer_to, array_of, struct_type}
-use Rattle.c_type.specs.Layout.{Definitions, is_defined, members, offset}
+use Rattle.c_typed.specs.c_type.Trees.{TypeTree, void_type, scalar_type, pointer_to, array_of, struct_type}
+use Rattle.c_typed.specs.c_type.Layout.{Definitions, is_defined, members, offset}
 use Rattle.c_typed.specs.declared.operator.Relation.TheVariants as relation
 use Rattle.c_typed.specs.declared.operator.UnaryOp.TheVariants as unary_op
 use Rattle.c_typed.specs.Typed.{ExprTree, expr, constant, address, unary, logical_and, logical_or, conditional, comma, ExprTrees, PlaceTree, place, at, member}

@@ -1,10 +1,10 @@
 -- What the operand rules ask of types (ISO/IEC 9899:2011, 6.2.5, 6.2.7, 6.3.1).
 use Rattle.std.specs.Prelude.{ℕ, ◌==◌, ◌&&◌, ◌||◌, nat_le, Bool, true, false, if◌then◌else◌, Option, None, Some}
 use Rattle.limits.specs.Limits.{most_type_bytes}
-use Rattle.c_type.specs.declared.scalar.Scalar.{Scalar}
-use Rattle.c_type.specs.declared.scalar.Scalar.TheVariants.{Char, SignedChar, UnsignedChar, Short, UnsignedShort, Int, UnsignedInt}
-use Rattle.c_type.specs.Trees.{TypeTree, void_type, scalar_type, pointer_to, array_of, struct_type}
-use Rattle.c_type.specs.Layout.{Definitions, is_complete, size}
+use Rattle.c_typed.specs.c_type.declared.scalar.Scalar.{Scalar}
+use Rattle.c_typed.specs.c_type.declared.scalar.Scalar.TheVariants.{Char, SignedChar, UnsignedChar, Short, UnsignedShort, Int, UnsignedInt}
+use Rattle.c_typed.specs.c_type.Trees.{TypeTree, void_type, scalar_type, pointer_to, array_of, struct_type}
+use Rattle.c_typed.specs.c_type.Layout.{Definitions, is_complete, size}
 use Rattle.c_typed.specs.WellTyped.{if_unsigned}
 
 abbrev pub is_integer : TypeTree → Bool

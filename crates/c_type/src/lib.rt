@@ -3,6 +3,9 @@
 //! Always: a defined struct has at most 1,048,576 bytes.
 #![tactic(auto)]
 
+// What is passed on of the libraries below.
+pub use val_core;
+
 mod define_fault;
 mod defining;
 pub mod laws;

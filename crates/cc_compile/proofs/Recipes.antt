@@ -3,7 +3,7 @@ use Rattle.std.proofs.Common.{◌≡◌, List, [], ◌∷◌, map, refl, sym, ap
 use Rattle.g_graph.specs.Plain.{PlainLambda}
 use Rattle.g_graph.specs.Program.{lambda_values}
 use Rattle.g_build_def.specs.Functions.{graph, omega}
-use Rattle.g_build_laws.specs.BuiltLaws.{WellTypedAreBuilt}
+use Rattle.cc_source_keeps.specs.g_build_laws.BuiltLaws.{WellTypedAreBuilt}
 use Rattle.g_pass_def.specs.Laws.{AnswersAreUnique, UnsweptAnswersAreLambdas}
 use Rattle.g_pass_keeps.specs.g_pass.Sweep.{rules}
 use Rattle.g_pass_keeps.specs.Laws.{AnswersKeepLists}

@@ -6,7 +6,7 @@ ghost use Rattle.cc_compile.specs.Compiled.{AnswersCanBeEmitted, OneImage, OneLi
 pub fn answers_can_be_emitted()
     ensures { AnswersCanBeEmitted }
 {
-    g_build_laws::laws::well_typed_are_built();
+    cc_source_keeps::g_build_laws::laws::well_typed_are_built();
     cc_source_keeps::laws::programs_can_be_emitted();
     g_pass_keeps::laws::answers_keep_lists();
 }

@@ -5,8 +5,9 @@
 #![tactic(auto)]
 
 // What is passed on of the libraries below.
+pub use cc_emit;
 pub use cc_source_keeps;
-pub use cc_source_keeps::cc_source;
+pub use cc_source_keeps::{cc_source, g_build};
 pub use g_pass_keeps;
 pub use g_pass_keeps::g_pass;
 pub use g_pass_work;

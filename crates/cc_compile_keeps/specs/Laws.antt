@@ -4,13 +4,13 @@ use Rattle.c_typed.specs.Typed.{ProgramTree}
 use Rattle.g_graph.specs.declared.steps.Rule.{Rule}
 use Rattle.g_graph.specs.Plain.{PlainLambda, PlainOptimised}
 use Rattle.g_build_def.specs.Functions.{graph, omega}
-use Rattle.g_build_keeps.specs.Laws.{HasMeaning}
+use Rattle.cc_source_keeps.specs.g_build_keeps.Laws.{HasMeaning}
 use Rattle.g_pass_def.specs.Answers.{AreAnswers}
 use Rattle.g_pass_def.specs.Laws.{HoldsDeps, with_answers}
 use Rattle.g_pass_keeps.specs.g_pass.Sweep.{rules}
 use Rattle.s_linear.specs.declared.frame.CodeForm.{CodeForm}
 use Rattle.cc_emit_def.specs.Image.{file_of_program, lambdas_of}
-use Rattle.cc_source_laws.specs.SourceLaws.{AreBytes}
+use Rattle.cc_source_keeps.specs.cc_source_laws.SourceLaws.{AreBytes}
 use Rattle.cc_source_keeps.specs.cc_source.Accepted.{Accepts}
 use Rattle.cc_source_keeps.specs.Meaning.{KeepsMeaning}
 

@@ -17,7 +17,7 @@ pub fn recipes_keep_meaning()
     ensures { RecipesKeepMeaning }
 {
     cc_source_keeps::laws::kept_lists_keep_meaning();
-    cc_source_laws::laws::checked_are_well_typed();
+    cc_source_keeps::cc_source_laws::laws::checked_are_well_typed();
     g_build_laws::laws::well_typed_are_built();
     g_pass_keeps::laws::answers_keep_lists();
 }
@@ -31,7 +31,7 @@ pub fn some_answers_keep_meaning()
 {
     cc_source_keeps::laws::kept_lists_have_meaning();
     cc_source_keeps::laws::kept_lists_keep_meaning();
-    cc_source_laws::laws::checked_are_well_typed();
+    cc_source_keeps::cc_source_laws::laws::checked_are_well_typed();
     g_build_laws::laws::well_typed_are_built();
     g_pass_keeps::laws::rules_are_steps();
     g_pass_def::laws::answers_keep_lists();

@@ -9,11 +9,11 @@ ghost use Rattle.cc_emit_def.specs.Laws.{IsFunction};
 
 use a_place::{frame, place};
 use a_share::share;
+use cc_emit_def::s_select::select;
 use g_graph::{Lambda, Optimised};
 use no_memory::NoMemory;
 use rv_layout::Item;
 use s_linear::{CodeForm, Linear, Places};
-use s_select::select;
 use s_sequence::sequence;
 use std::alloc::Global;
 use std::sync::Arc;

@@ -10,10 +10,10 @@ use Rattle.s_linear.specs.Frame.{counted_for}
 use Rattle.s_linear.specs.Lines.{Line, line_names, lines}
 use Rattle.s_linear.specs.declared.frame.CodeForm.TheVariants.{Plain, Tight}
 use Rattle.val_core.specs.Numbers.{numbers_from}
-use Rattle.a_place.specs.Laws.{PlacesAreBelowCount}
+use Rattle.a_share_def.specs.a_place.Laws.{PlacesAreBelowCount}
 use Rattle.a_share_def.specs.Laws.{SharedPlacesAreCounted}
-use Rattle.a_place.proofs.lemmas.Names.{below_name_count}
-use Rattle.a_place.specs.Places.{occurs, name_count, all_given, place_in, places}
+use Rattle.a_share_def.proofs.of_a_place.lemmas.Names.{below_name_count}
+use Rattle.a_share_def.specs.a_place.Places.{occurs, name_count, all_given, place_in, places}
 use Rattle.s_select.specs.Conditions.{has_place}
 use Rattle.s_select.specs.Conditions as condition
 use Rattle.cc_emit_def.specs.Laws.{NamesHavePlaces}

@@ -10,8 +10,8 @@ use Rattle.s_linear.specs.Frame.{counted_for}
 use Rattle.s_linear.specs.Linear.{Instr, Step, plain, choice, loop, Code, no_steps, step_then, Codes, no_codes, code_then, LinearFunction}
 use Rattle.s_linear.specs.Lines.{done, counted, instr_names, lines}
 use Rattle.s_linear.proofs.lemmas.Passing.{StepPasses, CodePasses, CodesPass, lines_pass}
-use Rattle.a_place.specs.Places.{among, above, place_in}
-use Rattle.a_place.proofs.lemmas.Names.{above_all}
+use Rattle.a_share_def.specs.a_place.Places.{among, above, place_in}
+use Rattle.a_share_def.proofs.of_a_place.lemmas.Names.{above_all}
 use Rattle.a_share_def.specs.Share.{sites, predicate_names, step_names, code_names, codes_names, all_names, all_given, shared}
 use Rattle.a_share_def.specs.Share as share
 use Rattle.a_share_def.specs.Laws.{shared_place, SharedPlacesAreCounted}

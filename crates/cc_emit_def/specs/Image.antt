@@ -11,7 +11,7 @@ use Rattle.s_linear.specs.Lines.{Line, lines}
 use Rattle.s_linear.specs.declared.frame.CodeForm.{CodeForm}
 use Rattle.s_linear.specs.declared.frame.CodeForm.TheVariants.{Plain, Tight}
 use Rattle.s_sequence.specs.Sequence.{sequenced}
-use Rattle.a_place.specs.Places.{places}
+use Rattle.a_share_def.specs.a_place.Places.{places}
 use Rattle.a_share_def.specs.Share.{shared}
 use Rattle.rv_layout.specs.declared.item.Item.{Item}
 use Rattle.rv_layout.specs.Items.{items_size}

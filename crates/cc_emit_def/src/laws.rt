@@ -7,7 +7,7 @@ ghost use Rattle.cc_emit_def.specs.Sizes.{LinesAreShort};
 pub fn names_have_places()
     ensures { NamesHavePlaces }
 {
-    a_place::laws::places_are_below_count();
+    a_share_def::a_place::laws::places_are_below_count();
     a_share_def::laws::shared_places_are_counted();
 }
 

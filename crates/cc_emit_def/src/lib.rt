@@ -3,4 +3,7 @@
 //! no memory.
 #![tactic(auto)]
 
+// What is passed on of the libraries below.
+pub use s_select;
+
 pub mod laws;

@@ -30,15 +30,15 @@ use Rattle.s_linear.specs.declared.frame.Frame.{Frame}
 use Rattle.s_linear.proofs.lemmas.Labels.{labels_are_marked_once}
 use Rattle.s_sequence.specs.Sequence.{op_instr, sequenced}
 use Rattle.s_sequence.proofs.lemmas.Instrs.{instrs_pass, globals_are_there}
-use Rattle.s_select.specs.Templates.{size_of}
-use Rattle.s_select.proofs.lemmas.Selected.{marks-items}
-use Rattle.s_select_keeps.specs.Formats.{IsInRange}
-use Rattle.s_select_keeps.specs.Functions.{FunctionCanRun, ProgramCanRun, HasBlocks}
-use Rattle.s_select_keeps.specs.LaidFunctions.{function_items, is_word_constant}
-use Rattle.s_select_keeps.specs.Mains.{HasStart}
-use Rattle.s_select_keeps.specs.Relation.{Bases, ShowsMemory}
-use Rattle.s_select_keeps.proofs.lemmas.LaidFunctions.{laid_program_can_run, laid_program_starts}
-use Rattle.s_select_keeps.proofs.lemmas.SelectedFunctions.{selected_can_run}
+use Rattle.cc_emit_def.specs.s_select.Templates.{size_of}
+use Rattle.cc_emit_def.proofs.of_s_select.lemmas.Selected.{marks-items}
+use Rattle.rv_layout_keeps.specs.s_select_keeps.Formats.{IsInRange}
+use Rattle.rv_layout_keeps.specs.s_select_keeps.Functions.{FunctionCanRun, ProgramCanRun, HasBlocks}
+use Rattle.rv_layout_keeps.specs.s_select_keeps.LaidFunctions.{function_items, is_word_constant}
+use Rattle.rv_layout_keeps.specs.s_select_keeps.Mains.{HasStart}
+use Rattle.rv_layout_keeps.specs.s_select_keeps.Relation.{Bases, ShowsMemory}
+use Rattle.rv_layout_keeps.proofs.of_s_select_keeps.lemmas.LaidFunctions.{laid_program_can_run, laid_program_starts}
+use Rattle.rv_layout_keeps.proofs.of_s_select_keeps.lemmas.SelectedFunctions.{selected_can_run}
 use Rattle.cc_emit_def.specs.Image.{places_in, places_of, main_of, image_of, file_of_program, CanEmit}
 use Rattle.cc_emit_def.specs.Laws.{IsFunction, ImageIsPlaced, ProgramLoads}
 use Rattle.cc_emit_def.proofs.lemmas.FunctionFits.{functions_fit, within_reach}

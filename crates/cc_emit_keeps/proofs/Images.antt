@@ -22,17 +22,17 @@ use Rattle.s_linear.specs.Meaning.{calls, finished}
 use Rattle.s_linear.specs.declared.frame.CodeForm.{CodeForm}
 use Rattle.s_linear.specs.declared.frame.CodeForm.TheVariants.{Plain, Tight}
 use Rattle.s_sequence.specs.Sequence.{sequenced}
-use Rattle.s_sequence_keeps.specs.Agreement.{GivesBack}
-use Rattle.s_sequence_keeps.specs.Laws.{ProgramsAreWithin}
-use Rattle.s_sequence_keeps.specs.Programs.{started, linear_program_at}
-use Rattle.a_place.specs.Placed.{placed_at, placed_calls}
+use Rattle.a_place_keeps.specs.s_sequence_keeps.Agreement.{GivesBack}
+use Rattle.a_place_keeps.specs.s_sequence_keeps.Laws.{ProgramsAreWithin}
+use Rattle.a_place_keeps.specs.s_sequence_keeps.Programs.{started, linear_program_at}
+use Rattle.a_place_keeps.specs.a_place.Placed.{placed_at, placed_calls}
 use Rattle.a_place_keeps.specs.Laws.{SequencedFunctionsAgree, SequencedSharedAgree}
-use Rattle.s_select_keeps.specs.Functions.{ProgramCanRun, frame_sizes}
-use Rattle.s_select_keeps.specs.LaidFunctions.{function_items}
-use Rattle.s_select_keeps.specs.Kept.{ProgramIsKept}
-use Rattle.s_select_keeps.specs.Kept as placed
-use Rattle.s_select_keeps.specs.Mains.{HasStart}
-use Rattle.s_select_keeps.specs.Relation.{Bases}
+use Rattle.rv_layout_keeps.specs.s_select_keeps.Functions.{ProgramCanRun, frame_sizes}
+use Rattle.rv_layout_keeps.specs.s_select_keeps.LaidFunctions.{function_items}
+use Rattle.rv_layout_keeps.specs.s_select_keeps.Kept.{ProgramIsKept}
+use Rattle.rv_layout_keeps.specs.s_select_keeps.Kept as placed
+use Rattle.rv_layout_keeps.specs.s_select_keeps.Mains.{HasStart}
+use Rattle.rv_layout_keeps.specs.s_select_keeps.Relation.{Bases}
 use Rattle.cc_emit_def.specs.Image.{places_in, main_of, image_of, file_of_program, CanEmit}
 use Rattle.cc_emit_def.specs.Image as image
 use Rattle.rv_behaviour_def.specs.Behaviour.{IsKept, FileKeeps}

@@ -1,9 +1,9 @@
 -- The image of a program does what its lambdas do.
 use Rattle.elf_file.specs.Laws.{LoadedIsSound}
 use Rattle.rv_layout.specs.Layout.{put_at}
-use Rattle.s_sequence_keeps.specs.Laws.{ProgramsAreWithin}
+use Rattle.a_place_keeps.specs.s_sequence_keeps.Laws.{ProgramsAreWithin}
 use Rattle.a_place_keeps.specs.Laws.{SequencedFunctionsAgree, SequencedSharedAgree}
-use Rattle.s_select_keeps.specs.Kept.{ProgramIsKept}
+use Rattle.rv_layout_keeps.specs.s_select_keeps.Kept.{ProgramIsKept}
 use Rattle.rv_layout_keeps.specs.Globals.{bases_of, GlobalsAreShown, GlobalsHaveBlocks}
 use Rattle.cc_emit_def.specs.Image.{places_in, main_of}
 use Rattle.cc_emit_def.specs.Laws.{ImageIsPlaced, ProgramLoads}

@@ -8,8 +8,8 @@ use Rattle.g_mean.specs.LessDefined.{AreBytes}
 use Rattle.s_linear.specs.Linear.{LinearFunction}
 use Rattle.s_linear.specs.declared.frame.CodeForm.{CodeForm}
 use Rattle.s_sequence.specs.Sequence.{sequenced}
-use Rattle.s_select_keeps.specs.Functions.{Program}
-use Rattle.s_select_keeps.specs.LaidFunctions.{loaded_program}
+use Rattle.rv_layout_keeps.specs.s_select_keeps.Functions.{Program}
+use Rattle.rv_layout_keeps.specs.s_select_keeps.LaidFunctions.{loaded_program}
 use Rattle.cc_emit_def.specs.Image.{places_in, frame_of, main_of, file_of_program, CanEmit}
 use Rattle.rv_behaviour_def.specs.Behaviour.{FileKeeps}
 

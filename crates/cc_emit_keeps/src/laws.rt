@@ -10,10 +10,10 @@ ghost use Rattle.cc_emit_keeps.specs.Images.{ImagesKeepMeaning};
 pub fn images_keep_meaning()
     ensures { ImagesKeepMeaning }
 {
-    s_select_keeps::laws::programs_are_kept();
+    rv_layout_keeps::s_select_keeps::laws::programs_are_kept();
     a_place_keeps::laws::sequenced_functions_agree();
     a_place_keeps::laws::sequenced_shared_agree();
-    s_sequence_keeps::laws::runs_are_within_each_other();
+    a_place_keeps::s_sequence_keeps::laws::runs_are_within_each_other();
     cc_emit_def::laws::program_loads();
     cc_emit_def::laws::image_is_placed();
     elf_file::laws::loaded_is_sound();

@@ -9,8 +9,8 @@ use Rattle.c_parse.specs.declared.fault.ParseFault.{ParseFault}
 use Rattle.c_parse.specs.declared.fault.ParseFault.TheVariants as parser
 use Rattle.cc_source.specs.c_check.declared.fault.CheckFault.{CheckFault}
 use Rattle.cc_source.specs.c_check.declared.fault.CheckFault.TheVariants as checker
-use Rattle.g_build.specs.declared.omega.BuildFault.{BuildFault}
-use Rattle.g_build.specs.declared.omega.BuildFault.TheVariants as construction
+use Rattle.cc_source.specs.g_build.declared.omega.BuildFault.{BuildFault}
+use Rattle.cc_source.specs.g_build.declared.omega.BuildFault.TheVariants as construction
 use Rattle.cc_source.specs.Accepted.{AcceptedIsNotRefused as AcceptedHasNoFault, AcceptedOrRefused as AcceptedOrFaulty, OneFault, Refuses}
 use Rattle.cc_source.specs.declared.fault.CompileFault.{CompileFault}
 use Rattle.cc_source.specs.declared.fault.CompileFault.TheVariants as fault

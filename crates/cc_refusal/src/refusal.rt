@@ -8,7 +8,7 @@ use c_parse::ParseFault;
 use cc_report::{Refusal, RefusalKind};
 use cc_source::CompileFault;
 use cc_source::c_check::CheckFault;
-use g_build::BuildFault;
+use cc_source::g_build::BuildFault;
 
 fn line_ends(text: &[u8]) -> u64
     requires { length text.now < 2 ^ 32 }

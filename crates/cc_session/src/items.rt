@@ -8,7 +8,7 @@ ghost use Rattle.cc_emit_def.specs.Image.{function_items, lambdas_of};
 ghost use Rattle.cc_emit_def.specs.Laws.{IsFunction};
 ghost use Rattle.cc_session.specs.Items.{items_of, AreItemsKept};
 
-use cc_emit::function_items;
+use cc_compile::cc_emit::function_items;
 use g_graph::{Lambda, Optimised};
 use no_memory::NoMemory;
 use rv_layout::Item;

@@ -5,6 +5,8 @@
 // What is passed on of the libraries below.
 pub use c_check;
 pub use cc_source_laws;
+pub use cc_source_laws::g_build_keeps;
+pub use g_build;
 
 mod fault;
 pub mod laws;

@@ -18,7 +18,7 @@ use Rattle.g_mean.specs.Kinds.{AreOfKinds, call_takes, ReturnsRefine}
 use Rattle.g_mean.specs.LessDefined.{AreBytes, AreSound}
 use Rattle.r_edit.specs.Steps.{MayStandForAll, CallsBothWays, CompleteListsReturn}
 use Rattle.rv_behaviour_def.proofs.lemmas.Nearer.{undefined_is_apart}
-use Rattle.g_build_keeps.specs.Laws.{GivesBack, IsCall, CallIsKept, HasMeaning}
+use Rattle.cc_source.specs.g_build_keeps.Laws.{GivesBack, IsCall, CallIsKept, HasMeaning}
 
 -- ---- what a call takes
 

@@ -18,7 +18,7 @@ use Rattle.g_mean.specs.Data.{Datum}
 use Rattle.g_mean.specs.Calls.{program_at, deepest_main}
 use Rattle.g_mean.specs.LessDefined.{Paired, AreBytes, AreNarrow, AreSoundDeltas, IsLessDefinedDatum}
 use Rattle.r_edit.specs.Steps.{MayStandForAll, WithinBothWays, ListsStandForThemselves}
-use Rattle.g_build_keeps.specs.Laws.{ConstructionKeepsPrograms, StartsAsProgram}
+use Rattle.cc_source.specs.g_build_keeps.Laws.{ConstructionKeepsPrograms, StartsAsProgram}
 use Rattle.s_linear.specs.declared.frame.CodeForm.{CodeForm}
 use Rattle.cc_emit_keeps.specs.cc_emit_def.Image.{CanEmit, file_of_program}
 use Rattle.rv_behaviour_def.specs.Behaviour.{FileKeeps}

@@ -9,8 +9,8 @@ use Rattle.g_build_laws.specs.BuiltLaws.{IsSmall}
 use Rattle.cc_source.specs.g_build.Passed.{limit_passed}
 use Rattle.r_edit.specs.Steps.{MayStandForAll}
 use Rattle.g_pass_def.specs.Kept.{IsKeptBy}
-use Rattle.g_build_keeps.specs.Groups.{HasFewGroups}
-use Rattle.g_build_keeps.specs.Laws.{HasMeaning}
+use Rattle.cc_source.specs.g_build_keeps.Groups.{HasFewGroups}
+use Rattle.cc_source.specs.g_build_keeps.Laws.{HasMeaning}
 use Rattle.s_linear.specs.declared.frame.CodeForm.{CodeForm}
 use Rattle.cc_emit_keeps.specs.cc_emit_def.Image.{CanEmit, file_of_program}
 use Rattle.cc_source.specs.cc_source_laws.SourceLaws.{AreBytes}

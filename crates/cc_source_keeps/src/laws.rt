@@ -30,7 +30,7 @@ pub fn programs_keep_meaning()
     ensures lists { ProgramsKeepMeaning }
     ensures built { BuiltProgramsKeepMeaning }
 {
-    g_build_keeps::laws::construction_keeps_programs();
+    cc_source::g_build_keeps::laws::construction_keeps_programs();
     g_build_laws::laws::well_typed_are_built();
     g_build_laws::laws::small_are_within_limits();
     r_edit::steps::lists_compose();

@@ -6,5 +6,7 @@
 
 // What is passed on of the libraries below.
 pub use cc_source;
+pub use cc_source::{cc_source_laws, g_build};
+pub use g_build_laws;
 
 pub mod laws;

@@ -5,7 +5,7 @@ use Rattle.c_ast.specs.Productions as l
 use Rattle.c_ast.specs.Tree.{Tree, Node, Cons}
 use Rattle.c_typed.specs.Typed as typed
 use Rattle.c_typed.specs.Typed.{ExprTree, StmtTree, ItemTrees, no_items, stmt_then, declare_then, GroupTrees, no_groups, group_then}
-use Rattle.c_mean.specs.Statements.{group_count}
+use Rattle.g_build_keeps.specs.c_mean.Statements.{group_count}
 use Rattle.c_check_def.specs.State.{MaybeType, State}
 use Rattle.c_check_def.specs.Leaves.{offset_of, is_present}
 use Rattle.c_check_def.specs.Specifiers.{Specified, specified_type}

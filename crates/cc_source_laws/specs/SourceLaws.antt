@@ -10,7 +10,7 @@ use Rattle.c_typed.specs.WellTyped.{IsWellTyped}
 use Rattle.c_check_def.specs.Check.{check}
 use Rattle.c_check_def.specs.CheckLaws.{IsInRange}
 use Rattle.c_check_def.specs.Limits.{above_limits}
-use Rattle.g_build_def.specs.Functions.{graph}
+use Rattle.g_build_keeps.specs.g_build_def.Functions.{graph}
 use Rattle.g_build_keeps.specs.Groups.{HasFewGroups}
 use Rattle.g_build_keeps.specs.Laws.{HasMeaning, StartsAsProgram}
 

@@ -4,4 +4,7 @@
 //! memory.
 #![tactic(auto)]
 
+// What is passed on of the libraries below.
+pub use g_build_keeps;
+
 pub mod laws;

@@ -7,7 +7,7 @@ use Rattle.g_build_def.specs.Functions as built
 use Rattle.g_pass_def.specs.Answers.{AreAnswers, lambda_of}
 use Rattle.g_pass_def.specs.Sweep.{optimise}
 use Rattle.cc_compile.specs.g_pass.Sweep.{rules}
-use Rattle.cc_emit_def.specs.Image.{lambdas_of, CanEmit}
+use Rattle.cc_compile.specs.cc_emit_def.Image.{lambdas_of, CanEmit}
 use Rattle.cc_compile.specs.cc_source.Accepted.{Accepts}
 
 -- A program has this graph, the recipe makes these of its lambdas, and both can be put in an image.

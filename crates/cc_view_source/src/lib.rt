@@ -5,6 +5,7 @@
 
 // What is passed on of the libraries below.
 pub use cc_compile;
+pub use cc_compile::cc_emit;
 
 mod callees;
 mod making;

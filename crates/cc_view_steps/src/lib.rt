@@ -5,7 +5,7 @@
 
 // What is passed on of the libraries below.
 pub use cc_view_source;
-pub use cc_view_source::cc_compile;
+pub use cc_view_source::{cc_compile, cc_emit};
 pub use g_pass_replay::g_pass;
 
 pub mod laws;

@@ -18,7 +18,7 @@ use Rattle.g_graph.specs.Splice.{joined_nodes}
 use Rattle.g_graph.specs.Nodes.{is_used}
 use Rattle.g_graph.proofs.lemmas.Nests.{regions_of_well_formed}
 use Rattle.g_graph.proofs.lemmas.Unique.{same_number}
-use Rattle.g_mean.specs.Silent.{GivesNoState}
+use Rattle.r_edit.specs.g_mean.Silent.{GivesNoState}
 use Rattle.g_arena_def.specs.Flat.{FlatRegion, FlatNode, Flat, place_in, region_flat, regions_flat, flat_of}
 use Rattle.g_arena_def.specs.Reads.{found, kind_in, times, input_uses, uses_in}
 use Rattle.g_arena_def.specs.Edits.{node_removed}

@@ -6,7 +6,7 @@ use Rattle.std.proofs.lemmas.Bool.{eqb-true, eqb-false, eq-eqb, ne_eqb}
 use Rattle.std.proofs.lemmas.Iterator.Adapters.{position_from-zero}
 use Rattle.std.proofs.lemmas.Option.{same_Some}
 use Rattle.cell_lists.specs.Lists.{is_in, IsFree, first_or, last_or, before_in, after_in, without}
-use Rattle.g_graph.specs.declared.op.Kind.{Kind}
+use Rattle.g_arena_def.specs.g_graph.declared.op.Kind.{Kind}
 use Rattle.g_arena_slots.specs.Plain.{PlainSlot, is_live, slot_at, numbers_of, live_from, live_slot, all_live, IsShort, AreShort, IsThere, id_at, number_index, slot_gone, output_gone, argument_gone, counted, in_order}
 
 pub apart : {A : Type 0} (x : A) → None ≡ Some x → ⊥

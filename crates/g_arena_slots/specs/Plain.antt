@@ -4,11 +4,11 @@ use Rattle.std.specs.List.{remove}
 use Rattle.std.specs.declared.option.Option.{Option}
 use Rattle.std.specs.declared.option.Option.TheVariants.{Some, None}
 use Rattle.cell_lists.specs.Lists.{Lists}
-use Rattle.g_graph.specs.declared.op.Kind.{Kind}
-use Rattle.g_graph.specs.declared.op.Op.{Op}
-use Rattle.g_graph.specs.declared.op.Origin.{Origin}
-use Rattle.g_graph.specs.declared.op.Origin.TheVariants.{Arg, Out}
-use Rattle.g_graph.specs.declared.op.Op.TheVariants.{Undef}
+use Rattle.g_arena_def.specs.g_graph.declared.op.Kind.{Kind}
+use Rattle.g_arena_def.specs.g_graph.declared.op.Op.{Op}
+use Rattle.g_arena_def.specs.g_graph.declared.op.Origin.{Origin}
+use Rattle.g_arena_def.specs.g_graph.declared.op.Origin.TheVariants.{Arg, Out}
+use Rattle.g_arena_def.specs.g_graph.declared.op.Op.TheVariants.{Undef}
 use Rattle.g_arena_def.specs.declared.place.Place.{Place}
 use Rattle.g_arena_def.specs.Flat.{body_place, same_place}
 

@@ -2,7 +2,7 @@
 
 ghost use Rattle.std.specs.Prelude.{◌≡◌, ◌+◌, ◌<◌, ◌^◌, List, true, IfOk, IfSome, Some, None, length, option_and_then, option_map, slice_get, slice_set};
 ghost use Rattle.std.specs.List.{remove};
-ghost use Rattle.g_graph.specs.declared.op.Kind.{Kind};
+ghost use Rattle.g_arena_def.specs.g_graph.declared.op.Kind.{Kind};
 ghost use Rattle.cell_lists.specs.Lists.{AreDistinct, first_or, last_or, before_in, after_in};
 ghost use Rattle.g_arena_def.specs.Flat.{same_node, same_place};
 ghost use Rattle.g_arena_slots.specs.Plain.{
@@ -31,7 +31,7 @@ ghost use Rattle.g_arena_slots.specs.Plain.{
 
 use cell_lists::CellLists;
 use g_arena_def::Place;
-use g_graph::{Kind, Op, Origin};
+use g_arena_def::g_graph::{Kind, Op, Origin};
 use indexmap::IndexSet;
 use no_memory::NoMemory;
 use std::alloc::Global;
@@ -45,7 +45,7 @@ pub struct Kinds {
 
 impl Model for Kinds {
     ghost use Rattle.std.specs.Prelude.{List};
-    ghost use Rattle.g_graph.specs.declared.op.Kind.{Kind};
+    ghost use Rattle.g_arena_def.specs.g_graph.declared.op.Kind.{Kind};
 
     ghost Value = { List Kind };
 

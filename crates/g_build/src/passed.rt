@@ -7,7 +7,7 @@ ghost use Rattle.g_build_def.specs.Functions.{function_values};
 ghost use Rattle.g_build.specs.Passed.{limit_passed, first_large, first_beyond};
 
 use c_typed::TFunction;
-use g_build_count::count;
+use g_build_statement::g_build_count::count;
 use limits::{MOST_BUILT_VALUES, MOST_LAMBDA_VALUES};
 
 /// A limit that a program passes: the offset of the name of the function that passes it, its number

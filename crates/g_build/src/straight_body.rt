@@ -7,8 +7,8 @@ ghost use Rattle.g_build_expression.specs.Work.{made};
 ghost use Rattle.g_build.specs.Bodies.{returned_made};
 
 use c_typed::{Item, StmtForm, TStmt};
-use g_build_count::{is_return, items_follow};
 use g_build_expression::Builder;
+use g_build_statement::g_build_count::{is_return, items_follow};
 use g_build_statement::{Objects, declare, statement};
 use g_graph::Origin;
 use no_memory::NoMemory;

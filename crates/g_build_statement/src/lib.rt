@@ -3,6 +3,9 @@
 //! Always: no statement is walked twice to learn whether it can leave.
 #![tactic(auto)]
 
+// What is passed on of the libraries below.
+pub use g_build_count;
+
 mod declaration;
 mod jumps;
 mod labels;

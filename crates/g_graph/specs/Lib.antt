@@ -12,3 +12,5 @@ pub mod Splice
 pub mod Nodes
 pub mod Lists
 pub mod Program
+-- What is passed on of the libraries below.
+pub use Rattle.val_core.specs as val_core

@@ -11,13 +11,13 @@ ghost use Rattle.g_graph.specs.declared.steps.Step.{Step};
 ghost use Rattle.g_arena_def.specs.Flat.{StandsFor};
 ghost use Rattle.g_pass_def.specs.Answers.{lambdas_of};
 ghost use Rattle.g_pass_def.specs.Sweep.{in_order, sweep};
-ghost use Rattle.r_sweep_laws.specs.Fast.{HasSwept, IsWhole};
+ghost use Rattle.r_dne_sweep.specs.r_sweep_laws.Fast.{HasSwept, IsWhole};
 ghost use Rattle.g_pass.specs.Fast.{change_of, is_in_arena, swept_each, AreInArena, AreSwept, RulesKeep};
 ghost use Rattle.g_pass.specs.Sweep.{rules};
 
-use g_arena::Arena;
 use g_graph::{Lambda, Optimised, Rule, Step};
 use no_memory::NoMemory;
+use r_cne_sweep::g_arena::Arena;
 use std::alloc::Global;
 use std::marker::Brand;
 use std::sync::Arc;
@@ -224,12 +224,12 @@ fn sweep_arena<L: Ledger>(
 fn rules_keep()
     ensures { RulesKeep }
 {
-    r_fold::laws::fold_keeps_meaning();
-    r_cne::laws::cne_keeps_meaning();
-    r_dne::laws::dne_keeps_meaning();
-    r_inv::laws::inv_keeps_meaning();
-    r_push::laws::psh_keeps_meaning();
-    r_pull::laws::pll_keeps_meaning();
-    r_unroll::laws::url_keeps_meaning();
-    r_invert::laws::ivt_keeps_meaning();
+    r_fold_walk::r_fold::laws::fold_keeps_meaning();
+    r_cne_sweep::r_cne::laws::cne_keeps_meaning();
+    r_dne_sweep::r_dne::laws::dne_keeps_meaning();
+    r_inv_sweep::r_inv::laws::inv_keeps_meaning();
+    r_push_walk::r_push::laws::psh_keeps_meaning();
+    r_pull_walk::r_pull::laws::pll_keeps_meaning();
+    r_unroll_walk::r_unroll::laws::url_keeps_meaning();
+    r_invert_walk::r_invert::laws::ivt_keeps_meaning();
 }

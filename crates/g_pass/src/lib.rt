@@ -4,6 +4,16 @@
 //! Always: out of memory, a swept lambda is the one after the logged steps.
 #![tactic(auto)]
 
+// What is passed on of the libraries below.
+pub use r_cne_sweep::r_cne;
+pub use r_dne_sweep::r_dne;
+pub use r_fold_walk::r_fold;
+pub use r_inline_walk::r_inline;
+pub use r_invert_walk::r_invert;
+pub use r_pull_walk::r_pull;
+pub use r_push_walk::r_push;
+pub use r_unroll_walk::r_unroll;
+
 mod callee;
 mod fast;
 pub mod laws;

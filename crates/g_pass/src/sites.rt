@@ -120,10 +120,10 @@ fn can_change(rule: Rule, region: &Region, node: u32) -> bool
     ensures { result ≡ is_some (change_in rule node region.now) }
 {
     match rule {
-        Rule::Fold => r_fold::can_fold(region, node),
-        Rule::Cne => r_cne::can_replace(region, node),
-        Rule::Dne => r_dne::can_eliminate(region, node),
-        Rule::Inv => r_inv::can_redirect(region, node),
+        Rule::Fold => r_fold_walk::r_fold::can_fold(region, node),
+        Rule::Cne => r_cne_sweep::r_cne::can_replace(region, node),
+        Rule::Dne => r_dne_sweep::r_dne::can_eliminate(region, node),
+        Rule::Inv => r_inv_sweep::r_inv::can_redirect(region, node),
         Rule::Invert | Rule::Unroll => has_loop(region, node),
         _ => true,
     }

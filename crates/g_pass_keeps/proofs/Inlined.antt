@@ -6,9 +6,9 @@ use Rattle.std.specs.List.{AllByRecursion}
 use Rattle.g_graph.specs.Plain.{PlainLambda}
 use Rattle.g_graph.specs.WellFormed.{IsWellFormed}
 use Rattle.r_edit.specs.Steps.{HasEach, MayStandFor}
-use Rattle.r_inline.specs.Rule as inline_rule
-use Rattle.r_inline.specs.Called.{called_at}
-use Rattle.r_inline.specs.Laws.{IlnIsAStep}
+use Rattle.g_pass.specs.r_inline.Rule as inline_rule
+use Rattle.g_pass.specs.r_inline.Called.{called_at}
+use Rattle.g_pass.specs.r_inline.Laws.{IlnIsAStep}
 use Rattle.g_pass.specs.r_inline_laws.Callees.{numbered, inlined_at}
 
 -- ---- a held lambda, by its number

@@ -4,15 +4,15 @@ use Rattle.std.proofs.lemmas.Option.{none-some, same_Some}
 use Rattle.g_graph.specs.declared.steps.Rule.TheVariants.{Fold, Cne, Dne, Inv, Push, Pull, Invert, Unroll, Inline}
 use Rattle.g_graph.specs.Plain.{PlainLambda}
 use Rattle.r_edit.specs.Steps.{MayStandFor}
-use Rattle.r_fold.specs.Laws.{FoldIsAStep}
-use Rattle.r_cne.specs.Laws.{CneIsAStep}
-use Rattle.r_dne.specs.Laws.{DneIsAStep}
+use Rattle.g_pass.specs.r_fold.Laws.{FoldIsAStep}
+use Rattle.g_pass.specs.r_cne.Laws.{CneIsAStep}
+use Rattle.g_pass.specs.r_dne.Laws.{DneIsAStep}
 use Rattle.r_inv.specs.Laws.{InvIsAStep}
-use Rattle.r_push.specs.Laws.{PshIsAStep}
-use Rattle.r_pull.specs.Laws.{PllIsAStep}
-use Rattle.r_unroll.specs.Laws.{UrlIsAStep}
-use Rattle.r_invert.specs.Laws.{IvtIsAStep}
-use Rattle.r_inline.specs.Laws.{IlnIsAStep}
+use Rattle.g_pass.specs.r_push.Laws.{PshIsAStep}
+use Rattle.g_pass.specs.r_pull.Laws.{PllIsAStep}
+use Rattle.g_pass.specs.r_unroll.Laws.{UrlIsAStep}
+use Rattle.g_pass.specs.r_invert.Laws.{IvtIsAStep}
+use Rattle.g_pass.specs.r_inline.Laws.{IlnIsAStep}
 use Rattle.g_pass.specs.Sweep.{applies, applied}
 use Rattle.g_pass_keeps.proofs.Inlined.{inlined_is_a_step}
 use Rattle.g_pass_keeps.specs.Laws.{RulesAreSteps}

@@ -22,25 +22,25 @@ use Rattle.g_mean.proofs.lemmas.Programs.{programs_keep_meaning}
 use Rattle.g_mean.proofs.lemmas.Replacement.{lambdas_keep_meaning}
 use Rattle.r_edit.specs.Size.{may_change_size}
 use Rattle.r_edit.specs.Steps.{HasEach}
-use Rattle.r_copy.specs.Numbering.{node_count}
-use Rattle.r_fold.specs.Laws.{FoldReplaces}
-use Rattle.r_fold.specs.Rule.{fold_here}
-use Rattle.r_cne.specs.Laws.{CneReplaces}
-use Rattle.r_cne.specs.Rule.{cne_here}
-use Rattle.r_dne.specs.Laws.{DneReplaces}
-use Rattle.r_dne.specs.Rule.{dne_here}
+use Rattle.g_pass.specs.r_copy.Numbering.{node_count}
+use Rattle.g_pass.specs.r_fold.Laws.{FoldReplaces}
+use Rattle.g_pass.specs.r_fold.Rule.{fold_here}
+use Rattle.g_pass.specs.r_cne.Laws.{CneReplaces}
+use Rattle.g_pass.specs.r_cne.Rule.{cne_here}
+use Rattle.g_pass.specs.r_dne.Laws.{DneReplaces}
+use Rattle.g_pass.specs.r_dne.Rule.{dne_here}
 use Rattle.r_inv.specs.Laws.{InvReplaces}
 use Rattle.r_inv.specs.Rule.{inv_here}
-use Rattle.r_push.specs.Laws.{PshReplaces}
-use Rattle.r_push.specs.Rule.{psh_here}
-use Rattle.r_pull.specs.Laws.{PllReplaces}
-use Rattle.r_pull.specs.Rule.{pll_here}
-use Rattle.r_unroll.specs.Laws.{UrlReplaces}
-use Rattle.r_unroll.specs.Rule.{url_here}
-use Rattle.r_invert.specs.Laws.{IvtReplaces}
-use Rattle.r_invert.specs.Rule.{ivt_here, body_inverted, with_body, ivt}
-use Rattle.r_inline.specs.Laws.{IlnReplaces}
-use Rattle.r_inline.specs.Rule as inline_rule
+use Rattle.g_pass.specs.r_push.Laws.{PshReplaces}
+use Rattle.g_pass.specs.r_push.Rule.{psh_here}
+use Rattle.g_pass.specs.r_pull.Laws.{PllReplaces}
+use Rattle.g_pass.specs.r_pull.Rule.{pll_here}
+use Rattle.g_pass.specs.r_unroll.Laws.{UrlReplaces}
+use Rattle.g_pass.specs.r_unroll.Rule.{url_here}
+use Rattle.g_pass.specs.r_invert.Laws.{IvtReplaces}
+use Rattle.g_pass.specs.r_invert.Rule.{ivt_here, body_inverted, with_body, ivt}
+use Rattle.g_pass.specs.r_inline.Laws.{IlnReplaces}
+use Rattle.g_pass.specs.r_inline.Rule as inline_rule
 use Rattle.g_pass.specs.r_inline_laws.Callees.{inlined_at}
 use Rattle.g_pass.specs.Sweep.{applies, applied}
 use Rattle.g_pass_keeps.proofs.Inlined.{numbered_all, numbered_there, is_inlined}

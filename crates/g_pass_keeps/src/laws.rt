@@ -7,15 +7,15 @@ ghost use Rattle.g_pass_keeps.specs.Laws.{RulesAreSteps, RulesKeepMeaning, Answe
 pub fn rules_are_steps()
     ensures { RulesAreSteps }
 {
-    r_fold::laws::fold_keeps_meaning();
-    r_cne::laws::cne_keeps_meaning();
-    r_dne::laws::dne_keeps_meaning();
+    g_pass::r_fold::laws::fold_keeps_meaning();
+    g_pass::r_cne::laws::cne_keeps_meaning();
+    g_pass::r_dne::laws::dne_keeps_meaning();
     r_inv::laws::inv_keeps_meaning();
-    r_push::laws::psh_keeps_meaning();
-    r_pull::laws::pll_keeps_meaning();
-    r_invert::laws::ivt_keeps_meaning();
-    r_unroll::laws::url_keeps_meaning();
-    r_inline::laws::iln_keeps_meaning();
+    g_pass::r_push::laws::psh_keeps_meaning();
+    g_pass::r_pull::laws::pll_keeps_meaning();
+    g_pass::r_invert::laws::ivt_keeps_meaning();
+    g_pass::r_unroll::laws::url_keeps_meaning();
+    g_pass::r_inline::laws::iln_keeps_meaning();
 }
 
 /// Where a rule changes one well-formed lambda of a list, every function keeps its meaning, and so
@@ -25,15 +25,15 @@ pub fn rules_are_steps()
 pub fn rules_keep_meaning()
     ensures { RulesKeepMeaning }
 {
-    r_fold::laws::fold_keeps_meaning();
-    r_cne::laws::cne_keeps_meaning();
-    r_dne::laws::dne_keeps_meaning();
+    g_pass::r_fold::laws::fold_keeps_meaning();
+    g_pass::r_cne::laws::cne_keeps_meaning();
+    g_pass::r_dne::laws::dne_keeps_meaning();
     r_inv::laws::inv_keeps_meaning();
-    r_push::laws::psh_keeps_meaning();
-    r_pull::laws::pll_keeps_meaning();
-    r_invert::laws::ivt_keeps_meaning();
-    r_unroll::laws::url_keeps_meaning();
-    r_inline::laws::iln_keeps_meaning();
+    g_pass::r_push::laws::psh_keeps_meaning();
+    g_pass::r_pull::laws::pll_keeps_meaning();
+    g_pass::r_invert::laws::ivt_keeps_meaning();
+    g_pass::r_unroll::laws::url_keeps_meaning();
+    g_pass::r_inline::laws::iln_keeps_meaning();
 }
 
 /// What the functions of a complete list are made into under a recipe may stand for them: every

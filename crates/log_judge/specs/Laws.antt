@@ -6,7 +6,7 @@ use Rattle.g_graph.specs.Plain.{PlainLambda}
 use Rattle.g_build_def.specs.Functions.{graph, omega}
 use Rattle.s_linear.specs.declared.frame.CodeForm.{CodeForm}
 use Rattle.cc_emit_def.specs.Image.{file_of_program}
-use Rattle.cc_source_laws.specs.SourceLaws.{AreBytes}
+use Rattle.cc_source_keeps.specs.cc_source_laws.SourceLaws.{AreBytes}
 use Rattle.cc_source_keeps.specs.cc_source.Accepted.{Accepts}
 use Rattle.log_check.specs.Log.{PlainPart}
 use Rattle.log_replay.specs.Right.{AreRight}

@@ -4,7 +4,7 @@ ghost use Rattle.std.specs.Prelude.{◌≡◌, None, IfOk, IfErr};
 ghost use Rattle.c_typed.specs.WellTyped.{IsWellTyped};
 ghost use Rattle.c_check_def.specs.Limits.{above_limits};
 ghost use Rattle.g_build_def.specs.Functions.{omega};
-ghost use Rattle.g_build.specs.Passed.{limit_passed};
+ghost use Rattle.cc_source_keeps.specs.g_build.Passed.{limit_passed};
 ghost use Rattle.cc_source_keeps.specs.Meaning.{KeepsMeaning};
 ghost use Rattle.log_judge.specs.Judgement.{Certifies, IsCertified, IsJudgeFault, IsLogFault};
 
@@ -13,8 +13,8 @@ use crate::image::judge_image;
 use crate::names::first_other_name;
 use c_typed::Typed;
 use cc_source_keeps::cc_source::accepted_of;
+use cc_source_keeps::g_build::{BuildFault, build};
 use cc_source_keeps::laws::{kept_lists_keep_meaning, programs_can_be_emitted};
-use g_build::{BuildFault, build};
 use g_graph::Omega;
 use log_check::read_log;
 use no_memory::NoMemory;

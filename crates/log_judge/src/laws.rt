@@ -25,7 +25,7 @@ pub fn faults_are_first()
 pub fn images_are_short()
     ensures { ImagesAreShort }
 {
-    cc_source_laws::laws::checked_are_well_typed();
+    cc_source_keeps::cc_source_laws::laws::checked_are_well_typed();
     programs_can_be_emitted();
     g_pass_keeps::laws::rules_are_steps();
     g_pass_def::laws::replayed_keep_lists();

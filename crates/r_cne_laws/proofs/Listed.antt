@@ -22,10 +22,10 @@ use Rattle.g_graph.proofs.lemmas.Unique.{times}
 use Rattle.g_arena_def.specs.declared.place.Place.{Place}
 use Rattle.g_arena_def.specs.Flat.{FlatRegion, FlatNode, Flat, region_flat, in_region, in_nodes, in_regions, flat_of}
 use Rattle.g_arena_def.specs.Reads.{uses_in, region_at}
-use Rattle.r_edit.specs.Lookup.{same_origins, first_of}
-use Rattle.r_edit.specs.Uses.{uses_replaced}
-use Rattle.r_edit.proofs.lemmas.Lookup.{Among, first_before}
-use Rattle.r_edit.proofs.lemmas.Uses.{uses_kept, known_value}
+use Rattle.g_arena_laws.specs.r_edit.Lookup.{same_origins, first_of}
+use Rattle.g_arena_laws.specs.r_edit.Uses.{uses_replaced}
+use Rattle.g_arena_laws.proofs.of_r_edit.lemmas.Lookup.{Among, first_before}
+use Rattle.g_arena_laws.proofs.of_r_edit.lemmas.Uses.{uses_kept, known_value}
 use Rattle.r_cne.specs.Rule.{is_common, other_than, earlier, cne_here, cne}
 use Rattle.g_arena_laws.specs.Removals.{uses_moved}
 use Rattle.g_arena_laws.proofs.lemmas.Outside.{AreApart, IsNone, none_of_both, none_of_rest, regions_apart}

@@ -9,7 +9,7 @@ use Rattle.g_graph.specs.Views.{same_op}
 use Rattle.g_arena_def.specs.declared.place.Place.{Place}
 use Rattle.g_arena_def.specs.Flat.{FlatNode, Flat, same_place}
 use Rattle.g_arena_def.specs.Reads.{found, uses_in}
-use Rattle.r_edit.specs.Lookup.{same_origins}
+use Rattle.g_arena_laws.specs.r_edit.Lookup.{same_origins}
 use Rattle.g_arena_laws.specs.Removals.{uses_moved}
 use Rattle.r_cne.specs.Rule.{is_common, other_than}
 

@@ -11,10 +11,10 @@ use Rattle.g_arena_def.specs.Flat.{FlatRegion, FlatNode, Flat, same_place}
 use Rattle.g_arena_def.specs.Reads.{ids, times, input_uses}
 use Rattle.g_arena_def.specs.Edits.{node_with, changed_in, inputs_at, uses_with}
 use Rattle.g_arena_keys.specs.Kept.{Kept}
-use Rattle.r_edit.specs.Lookup.{same_origins}
-use Rattle.g_arena_laws.proofs.lemmas.Around.{region_set}
-use Rattle.g_arena_laws.proofs.lemmas.Inputs.{input_id}
-use Rattle.r_sweep_laws.specs.Walk.{until, passed}
+use Rattle.r_cne_laws.specs.r_edit.Lookup.{same_origins}
+use Rattle.r_cne_laws.proofs.of_g_arena_laws.lemmas.Around.{region_set}
+use Rattle.r_cne_laws.proofs.of_g_arena_laws.lemmas.Inputs.{input_id}
+use Rattle.r_sweep.specs.r_sweep_laws.Walk.{until, passed}
 use Rattle.r_cne_laws.specs.Listed.{first_in}
 use Rattle.r_cne_sweep.specs.First.{AreFirst, number}
 

@@ -12,14 +12,14 @@ use Rattle.g_arena_def.specs.Reads.{ids, found, first_node, last_node, node_afte
 use Rattle.g_arena_def.specs.Size.{lambda_size}
 use Rattle.g_arena_keys.specs.Kept.{Kept}
 use Rattle.r_sweep_def.specs.Listed.{Listed, stepped_in, swept_in}
-use Rattle.r_sweep_laws.specs.Fast.{IsWhole, HasSwept}
-use Rattle.r_sweep_laws.specs.Measure.{flat_size, flat_named}
-use Rattle.r_sweep_laws.specs.Walk.{passed, left}
-use Rattle.r_sweep_laws.proofs.lemmas.Sizes.{numbers_are, size_within, uses_within}
-use Rattle.r_sweep_laws.proofs.lemmas.Steps.{SweptTo, begins, goes_on, ends}
-use Rattle.r_sweep_laws.proofs.lemmas.Walks.{at_found, left_numbers, first_left, first_passed, first_there, after_there}
-use Rattle.r_sweep_laws.proofs.lemmas.Whole.{once_whole, whole_after, has_swept}
-use Rattle.r_cne.specs.Rule.{cne}
+use Rattle.r_sweep.specs.r_sweep_laws.Fast.{IsWhole, HasSwept}
+use Rattle.r_sweep.specs.r_sweep_laws.Measure.{flat_size, flat_named}
+use Rattle.r_sweep.specs.r_sweep_laws.Walk.{passed, left}
+use Rattle.r_sweep.proofs.of_r_sweep_laws.lemmas.Sizes.{numbers_are, size_within, uses_within}
+use Rattle.r_sweep.proofs.of_r_sweep_laws.lemmas.Steps.{SweptTo, begins, goes_on, ends}
+use Rattle.r_sweep.proofs.of_r_sweep_laws.lemmas.Walks.{at_found, left_numbers, first_left, first_passed, first_there, after_there}
+use Rattle.r_sweep.proofs.of_r_sweep_laws.lemmas.Whole.{once_whole, whole_after, has_swept}
+use Rattle.r_cne_laws.specs.r_cne.Rule.{cne}
 use Rattle.r_cne_laws.specs.Laws.{CneIsListed, CneSweepsAreListed, cne_change}
 use Rattle.r_cne_laws.specs.Listed.{cne_in}
 use Rattle.r_cne_sweep.specs.First.{AreFirst, IsThere, number, numbers_left, cost_left}

@@ -15,10 +15,10 @@ use Rattle.g_arena_def.specs.declared.place.Place.{Place}
 use Rattle.g_arena_def.specs.Flat.{FlatNode, same_node, same_place}
 use Rattle.g_arena_def.specs.Reads.{found}
 use Rattle.g_arena_keys.specs.Kept.{Kept, is_for, kept, or_else, kept_or, with_new, with_kept, same_origins as same_kept}
-use Rattle.r_edit.specs.Lookup.{same_origins}
-use Rattle.g_arena_laws.proofs.lemmas.Inputs.{same_place_self}
-use Rattle.r_sweep_laws.proofs.lemmas.Walks.{Absent, Once}
-use Rattle.r_cne.specs.Rule.{is_common}
+use Rattle.r_cne_laws.specs.r_edit.Lookup.{same_origins}
+use Rattle.r_cne_laws.proofs.of_g_arena_laws.lemmas.Inputs.{same_place_self}
+use Rattle.r_sweep.proofs.of_r_sweep_laws.lemmas.Walks.{Absent, Once}
+use Rattle.r_cne_laws.specs.r_cne.Rule.{is_common}
 use Rattle.r_cne_laws.specs.Listed.{first_in}
 use Rattle.r_cne_sweep.specs.First.{AreFirst, number}
 

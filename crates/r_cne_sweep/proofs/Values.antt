@@ -12,9 +12,9 @@ use Rattle.g_graph.specs.WellFormed.{kinds_of}
 use Rattle.g_arena_def.specs.declared.place.Place.{Place}
 use Rattle.g_arena_def.specs.Flat.{FlatNode, Flat, body_place, place_in, in_region, in_nodes, in_regions, flat_of, same_place}
 use Rattle.g_arena_def.specs.Reads.{found, kind_in, output_kind}
-use Rattle.g_arena_laws.proofs.lemmas.Inputs.{same_place_self}
-use Rattle.r_sweep_laws.specs.Fast.{IsWhole}
-use Rattle.r_cne.specs.Rule.{is_common}
+use Rattle.r_cne_laws.proofs.of_g_arena_laws.lemmas.Inputs.{same_place_self}
+use Rattle.r_sweep.specs.r_sweep_laws.Fast.{IsWhole}
+use Rattle.r_cne_laws.specs.r_cne.Rule.{is_common}
 
 gives_value : (op : Op) (rs : RegionTrees) → is_common op ≡ true → kinds_of (outputs_of op rs) ≡ Value ∷ []
 gives_value (Const w) rs e = refl

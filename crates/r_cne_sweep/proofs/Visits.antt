@@ -17,16 +17,16 @@ use Rattle.g_arena_def.specs.Flat.{FlatNode, Flat, is_in}
 use Rattle.g_arena_def.specs.Reads.{ids, found, View, view_of, node_before, node_after, kind_in, input_uses, uses_in}
 use Rattle.g_arena_def.specs.Edits.{uses_with}
 use Rattle.g_arena_keys.specs.Kept.{Kept, or_else, kept, kept_or, with_kept}
-use Rattle.g_arena_laws.specs.Removals.{uses_moved}
-use Rattle.g_arena_laws.proofs.lemmas.UsesMove.{uses_are_moved}
+use Rattle.r_cne_laws.specs.g_arena_laws.Removals.{uses_moved}
+use Rattle.r_cne_laws.proofs.of_g_arena_laws.lemmas.UsesMove.{uses_are_moved}
 use Rattle.r_sweep_def.specs.Listed.{Listed, stepped_in}
-use Rattle.r_sweep_laws.specs.Fast.{IsWhole}
-use Rattle.r_sweep_laws.specs.Measure.{flat_named}
-use Rattle.r_sweep_laws.specs.Walk.{until, passed, left}
-use Rattle.r_sweep_laws.proofs.lemmas.Names.{flat_more, fewer_named}
-use Rattle.r_sweep_laws.proofs.lemmas.Walks.{Absent, Once, Forward, forward, found_at, parts_are, left_numbers, absent_behind, absent_numbers}
-use Rattle.r_sweep_laws.proofs.lemmas.Whole.{Stands, stands, once_whole}
-use Rattle.r_cne.specs.Rule.{is_common, other_than}
+use Rattle.r_sweep.specs.r_sweep_laws.Fast.{IsWhole}
+use Rattle.r_sweep.specs.r_sweep_laws.Measure.{flat_named}
+use Rattle.r_sweep.specs.r_sweep_laws.Walk.{until, passed, left}
+use Rattle.r_sweep.proofs.of_r_sweep_laws.lemmas.Names.{flat_more, fewer_named}
+use Rattle.r_sweep.proofs.of_r_sweep_laws.lemmas.Walks.{Absent, Once, Forward, forward, found_at, parts_are, left_numbers, absent_behind, absent_numbers}
+use Rattle.r_sweep.proofs.of_r_sweep_laws.lemmas.Whole.{Stands, stands, once_whole}
+use Rattle.r_cne_laws.specs.r_cne.Rule.{is_common, other_than}
 use Rattle.r_cne_laws.specs.Laws.{cne_change}
 use Rattle.r_cne_laws.specs.Listed.{first_in, earlier_in, moved_in, common_in, cne_in}
 use Rattle.r_cne_sweep.specs.First.{AreFirst, number, numbers_left, cost_left}

@@ -8,9 +8,9 @@ use Rattle.g_arena_def.specs.declared.place.Place.{Place}
 use Rattle.g_arena_def.specs.Flat.{FlatNode, Flat}
 use Rattle.g_arena_def.specs.Reads.{ids, found}
 use Rattle.g_arena_keys.specs.Kept.{Kept, kept}
-use Rattle.r_sweep_laws.specs.Walk.{left}
-use Rattle.r_sweep_laws.specs.Measure.{flat_named}
-use Rattle.r_cne.specs.Rule.{is_common}
+use Rattle.r_sweep.specs.r_sweep_laws.Walk.{left}
+use Rattle.r_sweep.specs.r_sweep_laws.Measure.{flat_named}
+use Rattle.r_cne_laws.specs.r_cne.Rule.{is_common}
 use Rattle.r_cne_laws.specs.Listed.{first_in}
 
 abbrev pub number : FlatNode → ℕ

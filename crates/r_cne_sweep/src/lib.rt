@@ -5,6 +5,10 @@
 // It stands here and not in `r_cne`: the laws that it rests on stand over that crate.
 #![tactic(auto)]
 
+// What is passed on of the libraries below.
+pub use r_cne_laws::r_cne;
+pub use r_sweep::g_arena;
+
 mod sweep;
 
 pub use sweep::sweep_fast;

@@ -24,19 +24,19 @@ ghost use Rattle.g_arena_def.specs.Flat.{StandsFor};
 ghost use Rattle.g_arena_def.specs.Conditions.{IsOrigin};
 ghost use Rattle.g_arena_def.specs.Reads.{ids, kind_in, node_after, uses_in};
 ghost use Rattle.g_arena_def.specs.Size.{lambda_size};
-ghost use Rattle.g_arena_laws.specs.Removals.{uses_moved};
+ghost use Rattle.r_cne_laws.specs.g_arena_laws.Removals.{uses_moved};
 ghost use Rattle.r_sweep_def.specs.Listed.{stepped_in};
-ghost use Rattle.r_sweep_laws.specs.Fast.{HasSwept, IsWhole};
-ghost use Rattle.r_sweep_laws.specs.Walk.{passed, until};
-ghost use Rattle.r_cne.specs.Rule.{is_common};
+ghost use Rattle.r_sweep.specs.r_sweep_laws.Fast.{HasSwept, IsWhole};
+ghost use Rattle.r_sweep.specs.r_sweep_laws.Walk.{passed, until};
+ghost use Rattle.r_cne_laws.specs.r_cne.Rule.{is_common};
 ghost use Rattle.r_cne_laws.specs.Laws.{cne_change};
 ghost use Rattle.r_cne_laws.specs.Listed.{cne_in};
 ghost use Rattle.r_cne_sweep.specs.First.{AreFirst, IsThere, number, cost_left};
 
-use g_arena::{Arena, Keys};
 use g_arena_def::Place;
 use g_graph::{Op, Origin, Rule, Step};
 use no_memory::NoMemory;
+use r_sweep::g_arena::{Arena, Keys};
 use r_sweep::move_uses;
 use std::alloc::Global;
 use std::sync::ledger::Ledger;
@@ -61,7 +61,7 @@ pub fn sweep_fast<L: Ledger>(
     ensures looks { (l : PlainLambda) → StandsFor arena.old l → IsWellFormed l →
         looks.new ≤ looks.old + 3 * lambda_size l }
 {
-    r_cne::laws::cne_keeps_meaning();
+    r_cne_laws::r_cne::laws::cne_keeps_meaning();
     r_cne_laws::laws::cne_is_listed();
     let mut keys = Keys::new(alloc);
     let mut next = match arena.ends(looks) {

@@ -9,7 +9,7 @@ use Rattle.g_graph.specs.WellFormed.{distinct, every_region, region_fits}
 use Rattle.g_mean.specs.Copies.{IsClosed}
 use Rattle.g_mean.specs.Meaning.{Context, region_meaning}
 use Rattle.r_copy.specs.Numbering.{node_count, region_numbered}
-use Rattle.val_core.specs.Numbers.{numbers_from}
+use Rattle.g_graph.specs.val_core.Numbers.{numbers_from}
 
 -- A copy of a region with unique numbers has the numbers from `next` on, in pre-order.
 abbrev pub CopiesAreNumbered : Type 0

@@ -21,7 +21,7 @@ use Rattle.r_sweep_laws.proofs.lemmas.Sizes.{nodes_size-both, numbers_are, size_
 use Rattle.r_sweep_laws.proofs.lemmas.Steps.{SweptTo, begins, goes_on, ends}
 use Rattle.r_sweep_laws.proofs.lemmas.Walks.{Absent, Once}
 use Rattle.r_sweep_laws.proofs.lemmas.Whole.{once_whole, whole_after, has_swept}
-use Rattle.r_dne.specs.Rule.{dne}
+use Rattle.r_dne_laws.specs.r_dne.Rule.{dne}
 use Rattle.r_dne_laws.specs.Laws.{DneIsListed, DneSweepsAreListed, dne_change}
 use Rattle.r_dne_laws.specs.Listed.{dne_in}
 use Rattle.r_dne_sweep.proofs.Front.{number, HasFront, dne_front}

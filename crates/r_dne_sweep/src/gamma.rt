@@ -42,9 +42,9 @@ ghost use Rattle.r_dne_sweep.specs.Gone.{with_note};
 ghost use Rattle.r_dne_sweep.specs.Shape.{HasEntries, IsShape};
 
 use crate::judging::{Shape, stays};
-use g_arena::Arena;
 use g_graph::{Origin, Rule, Step};
 use no_memory::NoMemory;
+use r_sweep::g_arena::Arena;
 use r_sweep::{place_in, remove_exit};
 use std::sync::ledger::Ledger;
 use steps::Steps;

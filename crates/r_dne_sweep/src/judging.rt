@@ -9,9 +9,9 @@ ghost use Rattle.g_arena_def.specs.Reads.{found};
 ghost use Rattle.r_dne_laws.specs.Listed.{is_dead_in};
 ghost use Rattle.r_dne_sweep.specs.Shape.{IsShape};
 
-use g_arena::{Arena, Uses};
 use g_arena_def::Place;
 use g_graph::{Kind, Op, Origin};
+use r_sweep::g_arena::{Arena, Uses};
 use std::sync::ledger::Ledger;
 use steps::Steps;
 

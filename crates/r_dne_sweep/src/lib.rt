@@ -5,6 +5,9 @@
 // It stands here and not in `r_dne`: the laws that it rests on stand over that crate.
 #![tactic(auto)]
 
+// What is passed on of the libraries below.
+pub use r_dne_laws::r_dne;
+
 mod gamma;
 mod judging;
 mod sweep;

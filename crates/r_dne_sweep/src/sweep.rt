@@ -18,9 +18,9 @@ ghost use Rattle.r_dne_sweep.specs.Shape.{IsShape};
 use crate::gamma::shrink_gamma;
 use crate::judging::{Shape, is_dead};
 use crate::theta::shrink_theta;
-use g_arena::Arena;
 use g_graph::{Op, Rule, Step};
 use no_memory::NoMemory;
+use r_sweep::g_arena::Arena;
 use std::alloc::Global;
 use std::sync::ledger::Ledger;
 use steps::Steps;
@@ -45,7 +45,7 @@ pub fn sweep_fast<L: Ledger>(
     ensures looks { (l : PlainLambda) → StandsFor arena.old l → IsWellFormed l →
         looks.new ≤ looks.old + 3 * lambda_size l }
 {
-    r_dne::laws::dne_keeps_meaning();
+    r_dne_laws::r_dne::laws::dne_keeps_meaning();
     r_dne_laws::laws::dne_is_listed();
     let mut next = match arena.ends(looks) {
         Some((_, last)) => Some(last),

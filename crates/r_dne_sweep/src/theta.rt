@@ -31,11 +31,11 @@ ghost use Rattle.r_dne_laws.specs.Listed.{theta_in, used_loops};
 ghost use Rattle.r_dne_sweep.specs.Shape.{IsShape, IsVariable};
 
 use crate::judging::{Shape, stays};
-use g_arena::Arena;
 use g_arena_def::Place;
 use g_graph::{Origin, Rule, Step, same_origin};
 use no_memory::NoMemory;
 use r_edit::are_all_true;
+use r_sweep::g_arena::Arena;
 use r_sweep::place_in;
 use std::alloc::Global;
 use std::sync::ledger::Ledger;

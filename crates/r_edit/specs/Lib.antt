@@ -14,3 +14,5 @@ pub mod Added
 pub mod Steps
 pub mod Origins
 pub mod Found
+-- What is passed on of the libraries below.
+pub use Rattle.g_mean.specs as g_mean

@@ -1,7 +1,7 @@
 -- The law of the rule in a walk.
 use Rattle.g_graph.specs.declared.steps.Rule.TheVariants.{Fold}
 use Rattle.r_fold.specs.Rule.{applies, fold}
-use Rattle.r_sweep_def.specs.Swept.{Change}
+use Rattle.r_walk_def.specs.r_sweep_def.Swept.{Change}
 use Rattle.r_walk_def.specs.Laws.{IsLocal}
 use Rattle.r_fold_laws.specs.Asked.{fold_asked}
 

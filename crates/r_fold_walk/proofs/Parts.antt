@@ -12,9 +12,9 @@ use Rattle.g_graph.specs.declared.op.Origin.{Origin}
 use Rattle.g_graph.specs.declared.op.Origin.TheVariants.{Out}
 use Rattle.g_graph.specs.Nodes.{constant}
 use Rattle.g_graph.specs.Plain.{RegionTree, region, NodeTree, node, NodeTrees, RegionTrees, no_regions, region_then, regions_of}
-use Rattle.r_fold.specs.declared.plan.Plan.{Plan}
-use Rattle.r_fold.specs.Plan.{planned, un_case, plain_case}
-use Rattle.r_fold.specs.Rule.{is_word, left_neutral, right_neutral, Folded, word, input, replacement, bin_folded, chosen_region, chosen_place, gamma_folded, folding}
+use Rattle.r_fold_laws.specs.r_fold.declared.plan.Plan.{Plan}
+use Rattle.r_fold_laws.specs.r_fold.Plan.{planned, un_case, plain_case}
+use Rattle.r_fold_laws.specs.r_fold.Rule.{is_word, left_neutral, right_neutral, Folded, word, input, replacement, bin_folded, chosen_region, chosen_place, gamma_folded, folding}
 use Rattle.r_fold_laws.specs.Asked.{part_of, fold_asked}
 use Rattle.r_fold_walk.specs.Said.{plan_said, opened_on, choice_said, loop_said}
 use Rattle.r_walk.specs.Around.{AreWords, IsAround, uses_in}
@@ -22,7 +22,7 @@ use Rattle.r_walk.specs.Asks.{said_of}
 use Rattle.r_walk.specs.declared.rule.Said.{Said}
 use Rattle.r_walk.specs.declared.uses.Uses.{Uses}
 use Rattle.r_walk.specs.declared.words.Words.{Words}
-use Rattle.r_walk_def.specs.Walk.{stays, opened, is_in}
+use Rattle.r_walk.specs.r_walk_def.Walk.{stays, opened, is_in}
 
 -- ---- a node without regions
 

@@ -7,11 +7,11 @@ use Rattle.g_graph.specs.declared.op.Op.TheVariants.{Const}
 use Rattle.g_graph.specs.declared.op.Origin.{Origin}
 use Rattle.g_graph.specs.Nodes.{constant}
 use Rattle.g_graph.specs.Plain.{NodeTrees, node, no_nodes, node_then, RegionTrees, no_regions}
-use Rattle.r_fold.specs.declared.plan.Plan.{Plan}
-use Rattle.r_fold.specs.declared.plan.Plan.TheVariants.{Word, Input, Replacement}
-use Rattle.r_fold.specs.Plan.{has_one_turn}
-use Rattle.r_fold.specs.Rule.{chosen_place}
-use Rattle.r_walk_def.specs.Walk.{Part, stays, becomes, opened}
+use Rattle.r_fold_laws.specs.r_fold.declared.plan.Plan.{Plan}
+use Rattle.r_fold_laws.specs.r_fold.declared.plan.Plan.TheVariants.{Word, Input, Replacement}
+use Rattle.r_fold_laws.specs.r_fold.Plan.{has_one_turn}
+use Rattle.r_fold_laws.specs.r_fold.Rule.{chosen_place}
+use Rattle.r_walk.specs.r_walk_def.Walk.{Part, stays, becomes, opened}
 
 -- of a node without regions, by its plan: a constant, or an origin for its output
 abbrev pub plan_said : (used : Bool) → (id : ℕ) → Op → (inputs : List Origin) → Option Plan → Part

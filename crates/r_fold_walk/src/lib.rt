@@ -3,6 +3,9 @@
 //! one after the other.
 #![tactic(auto)]
 
+// What is passed on of the libraries below.
+pub use r_fold_laws::r_fold;
+
 mod plan;
 mod said;
 mod sweep;

@@ -2,11 +2,11 @@
 
 ghost use Rattle.std.specs.Prelude.{◌≡◌, ℕ, option_map};
 ghost use Rattle.g_graph.specs.Plain.{NodeTrees, node, RegionTrees};
-ghost use Rattle.r_fold.specs.Plan.{planned, bin_case, un_case, plain_case};
+ghost use Rattle.r_fold_laws.specs.r_fold.Plan.{planned, bin_case, un_case, plain_case};
 ghost use Rattle.r_walk.specs.Around.{AreWords};
 
 use g_graph::{Op, Origin};
-use r_fold::{Plan, operand_plan, operands_plan};
+use r_fold_laws::r_fold::{Plan, operand_plan, operands_plan};
 use r_walk::Words;
 use val_core::{Op1, Op2};
 

@@ -6,11 +6,11 @@ ghost use Rattle.g_graph.specs.Plain.{NodeTrees, node, no_nodes, node_then, no_r
 ghost use Rattle.r_fold_walk.specs.Said.{plan_said, opened_on, choice_said, loop_said};
 ghost use Rattle.r_walk.specs.Around.{AreWords, uses_in};
 ghost use Rattle.r_walk.specs.Asks.{said_of};
-ghost use Rattle.r_walk_def.specs.Walk.{becomes, opened};
+ghost use Rattle.r_walk.specs.r_walk_def.Walk.{becomes, opened};
 
 use g_graph::{Node, Op, Origin, Region};
 use no_memory::NoMemory;
-use r_fold::{Plan, chosen_place, has_one_turn};
+use r_fold_laws::r_fold::{Plan, chosen_place, has_one_turn};
 use r_walk::{New, Opening, Said, Uses, Words};
 use smallvec::SmallVec;
 use std::alloc::Global;

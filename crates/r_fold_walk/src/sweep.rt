@@ -14,8 +14,8 @@ use crate::said::{of_choice, of_loop, of_plan};
 use g_graph::{Lambda, Op, Origin, Region, Rule, Step};
 use no_memory::NoMemory;
 use r_fold_laws::laws::fold_is_local;
+use r_fold_laws::r_walk_laws::laws::walks_are_sweeps;
 use r_walk::{Said, Uses, WalkRule, Words, walk};
-use r_walk_laws::laws::walks_are_sweeps;
 use std::alloc::Global;
 
 /// What a sweep of folding makes of a lambda: the rule is tried at each node that the lambda has,

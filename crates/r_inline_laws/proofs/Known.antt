@@ -10,8 +10,8 @@ use Rattle.g_graph.specs.Splice.{args_to_inputs}
 use Rattle.g_graph.proofs.lemmas.Redirects.{nodes_ids-redirected}
 use Rattle.g_mean.specs.Copies.{renumbered, nodes_moved, IsAmong, AreRead, known_after, is_argument, IsClosed}
 use Rattle.g_mean.proofs.lemmas.Splices.{known-among}
-use Rattle.r_copy.specs.Numbering.{number_from, region_numbered}
-use Rattle.r_copy.proofs.lemmas.Numbering.{moved-ids}
+use Rattle.r_inline.specs.r_copy.Numbering.{number_from, region_numbered}
+use Rattle.r_inline.proofs.of_r_copy.lemmas.Numbering.{moved-ids}
 use Rattle.r_walk_def.specs.Laws.{IsOutputAmong, AreOutputsAmong}
 
 -- what is read is there

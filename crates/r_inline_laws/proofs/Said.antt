@@ -17,7 +17,7 @@ use Rattle.g_mean.specs.Edits.{IsPartOf}
 use Rattle.g_mean.proofs.lemmas.Copies.{among-left, among-right}
 use Rattle.g_mean.proofs.lemmas.Inside.{inputs-read}
 use Rattle.g_mean.proofs.lemmas.Splices.{known-among}
-use Rattle.r_copy.specs.Numbering.{node_count, region_numbered}
+use Rattle.r_inline.specs.r_copy.Numbering.{node_count, region_numbered}
 use Rattle.r_inline.specs.Called.{called_by, called_at}
 use Rattle.r_inline.specs.Laws.{IlnIsAStep}
 use Rattle.r_inline.specs.Rule.{is_call, inlined, may_inline, applies, iln}

@@ -2,7 +2,7 @@
 use Rattle.std.specs.Prelude.{ℕ, ◌&&◌, List, Option, None, Some, option_and_then, if◌then◌else◌}
 use Rattle.g_graph.specs.declared.op.Origin.{Origin}
 use Rattle.g_graph.specs.Plain.{NodeTree, op_of, inputs_in, nodes_in, results_of, PlainLambda}
-use Rattle.r_copy.specs.Numbering.{node_count}
+use Rattle.r_inline.specs.r_copy.Numbering.{node_count}
 use Rattle.r_inline.specs.Called.{called_by}
 use Rattle.r_inline.specs.Rule.{is_call, inlined, may_inline}
 use Rattle.r_inline_laws.specs.Callees.{numbered}

@@ -4,7 +4,7 @@ use Rattle.g_graph.specs.declared.steps.Rule.TheVariants.{Inline}
 use Rattle.g_graph.specs.Plain.{PlainLambda}
 use Rattle.r_inline.specs.Called.{called_at}
 use Rattle.r_inline.specs.Rule.{applies, iln}
-use Rattle.r_sweep_def.specs.Swept.{Change}
+use Rattle.r_walk_def.specs.r_sweep_def.Swept.{Change}
 
 -- the first of these lambdas that has the number
 abbrev pub numbered : ℕ → List PlainLambda → Option PlainLambda

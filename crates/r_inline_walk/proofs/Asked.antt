@@ -8,17 +8,17 @@ use Rattle.g_graph.specs.declared.op.Op.{Op}
 use Rattle.g_graph.specs.declared.op.Origin.{Origin}
 use Rattle.g_graph.specs.Plain.{NodeTree, node, inputs_in, nodes_in, results_of, PlainLambda}
 use Rattle.g_graph.specs.WellFormed.{IsWellFormed}
-use Rattle.r_inline.specs.Called.{called_by}
-use Rattle.r_copy.specs.Numbering.{node_count}
-use Rattle.r_inline.specs.Rule.{calls, inlined, may_inline}
+use Rattle.r_inline_laws.specs.r_inline.Called.{called_by}
+use Rattle.r_walk.specs.r_copy.Numbering.{node_count}
+use Rattle.r_inline_laws.specs.r_inline.Rule.{calls, inlined, may_inline}
 use Rattle.r_inline_laws.specs.Asked.{part_of, callee_for, inline_asked}
 use Rattle.r_inline_laws.specs.Callees.{numbered, inline_change}
 use Rattle.r_inline_laws.specs.Laws.{InlineIsLocal}
 use Rattle.r_inline_walk.specs.Asked.{comes_at, made_at}
 use Rattle.r_sweep_def.specs.Swept.{Logged, Change, tried_by, swept_by}
 use Rattle.r_walk.specs.Asks as asks
-use Rattle.r_walk_def.specs.Laws.{WalksAreSweeps}
-use Rattle.r_walk_def.specs.Walk.{walked}
+use Rattle.r_walk.specs.r_walk_def.Laws.{WalksAreSweeps}
+use Rattle.r_walk.specs.r_walk_def.Walk.{walked}
 
 module _ (callees : List PlainLambda) where
   asked_is : asks.asked_by (made_at (λ f. numbered f callees)) ≡ inline_asked callees

@@ -4,9 +4,9 @@ use Rattle.std.specs.declared.option.Option.{Option}
 use Rattle.g_graph.specs.declared.op.Op.{Op}
 use Rattle.g_graph.specs.declared.op.Origin.{Origin}
 use Rattle.g_graph.specs.Plain.{NodeTree, op_of, inputs_in, nodes_in, results_of, PlainLambda, PlainOptimised}
-use Rattle.r_copy.specs.Numbering.{node_count}
-use Rattle.r_inline.specs.Called.{called_by}
-use Rattle.r_inline.specs.Rule.{node_inlined}
+use Rattle.r_walk.specs.r_copy.Numbering.{node_count}
+use Rattle.r_inline_laws.specs.r_inline.Called.{called_by}
+use Rattle.r_inline_laws.specs.r_inline.Rule.{node_inlined}
 use Rattle.r_walk.specs.Asks.{Made}
 
 abbrev pub lambdas_in : List PlainOptimised → List PlainLambda

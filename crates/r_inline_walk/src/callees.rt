@@ -6,13 +6,13 @@ ghost use Rattle.std.specs.BTreeMap.{get};
 ghost use Rattle.std.specs.List.{AllByRecursion};
 ghost use Rattle.std.specs.Ordering.{nat_cmp};
 ghost use Rattle.g_graph.specs.WellFormed.{IsWellFormed};
-ghost use Rattle.r_inline.specs.Called.{called_by};
+ghost use Rattle.r_inline_laws.specs.r_inline.Called.{called_by};
 ghost use Rattle.r_inline_laws.specs.Callees.{numbered};
 ghost use Rattle.r_inline_walk.specs.Asked.{lambdas_in, callee_at};
 
 use g_graph::{Lambda, Op, Optimised};
 use no_memory::NoMemory;
-use r_inline::called_by;
+use r_inline_laws::r_inline::called_by;
 use std::alloc::Global;
 use std::collections::BTreeMap;
 use std::sync::Arc;

@@ -3,6 +3,9 @@
 //! one after the other. A call takes the first of the callees that has its number.
 #![tactic(auto)]
 
+// What is passed on of the libraries below.
+pub use r_inline_laws::r_inline;
+
 mod callees;
 mod sweep;
 

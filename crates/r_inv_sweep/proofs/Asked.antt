@@ -12,7 +12,7 @@ use Rattle.g_graph.specs.declared.op.Origin.TheVariants.{Arg, Out}
 use Rattle.g_graph.specs.Scope.{same_kind, same_origin}
 use Rattle.g_graph.specs.WellFormed.{is_origin}
 use Rattle.r_edit.specs.Carried.{outer}
-use Rattle.r_inv.specs.Rule.{variables_from}
+use Rattle.r_inv_laws.specs.r_inv.Rule.{variables_from}
 use Rattle.g_arena_def.specs.Flat.{FlatRegion, FlatNode, Flat, place_in}
 use Rattle.g_arena_def.specs.Reads.{found, result_at, kind_in}
 use Rattle.r_sweep_laws.specs.Fast.{IsWhole}

@@ -15,7 +15,7 @@ use Rattle.g_graph.proofs.lemmas.Indexes.{same_origin_self}
 use Rattle.g_graph.proofs.lemmas.Unique.{same_number, equal_back}
 use Rattle.r_edit.specs.Carried.{outer}
 use Rattle.r_edit.proofs.lemmas.Carried.{Outer, outer_is}
-use Rattle.r_inv.specs.Rule.{variables_from}
+use Rattle.r_inv_laws.specs.r_inv.Rule.{variables_from}
 use Rattle.g_arena_def.specs.declared.place.Place.{Place}
 use Rattle.g_arena_def.specs.Flat.{FlatRegion, FlatNode, Flat, is_in, same_node, same_place}
 use Rattle.g_arena_def.specs.Reads.{found, kind_in, output_kind, times, input_uses, node_after}

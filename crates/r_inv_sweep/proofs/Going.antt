@@ -20,7 +20,7 @@ use Rattle.r_sweep_laws.proofs.lemmas.Sizes.{numbers_are, size_within}
 use Rattle.r_sweep_laws.proofs.lemmas.Steps.{SweptTo, begins, goes_on, ends}
 use Rattle.r_sweep_laws.proofs.lemmas.Walks.{at_found, left_numbers, first_left, first_there, after_there}
 use Rattle.r_sweep_laws.proofs.lemmas.Whole.{once_whole, whole_after, has_swept}
-use Rattle.r_inv.specs.Rule.{inv}
+use Rattle.r_inv_laws.specs.r_inv.Rule.{inv}
 use Rattle.r_inv_laws.specs.Laws.{InvIsListed, InvSweepsAreListed, inv_change}
 use Rattle.r_inv_laws.specs.Listed.{inv_in}
 use Rattle.r_inv_sweep.specs.Cost.{IsThere, number, results_in, node_cost, nodes_cost, numbers_left, cost_left}

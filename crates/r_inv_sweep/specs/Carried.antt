@@ -12,7 +12,7 @@ use Rattle.g_graph.specs.Scope.{same_kind}
 use Rattle.g_graph.specs.WellFormed.{is_origin}
 use Rattle.g_arena_def.specs.Flat.{FlatRegion, FlatNode, Flat}
 use Rattle.g_arena_laws.specs.Removals.{uses_carried, exits_carried}
-use Rattle.r_inv.specs.Rule.{variables_from}
+use Rattle.r_inv_laws.specs.r_inv.Rule.{variables_from}
 use Rattle.r_inv_laws.specs.Listed.{exits_in}
 
 abbrev pub can_carry : Op → Bool

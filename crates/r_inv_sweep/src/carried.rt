@@ -28,10 +28,10 @@ ghost use Rattle.r_inv_sweep.specs.Carried.{can_carry, carried_of};
 ghost use Rattle.r_inv_sweep.specs.Cost.{asked};
 ghost use Rattle.r_inv_sweep.specs.Shape.{IsShape};
 
-use g_arena::{Arena, Uses};
 use g_arena_def::Place;
 use g_graph::{Kind, Op, Origin, same_origin};
 use no_memory::NoMemory;
+use r_sweep::g_arena::{Arena, Uses};
 use r_sweep::place_in;
 use std::alloc::Global;
 use std::sync::ledger::Ledger;

@@ -5,6 +5,9 @@
 // It stands here and not in `r_inv`: the laws that it rests on stand over that crate.
 #![tactic(auto)]
 
+// What is passed on of the libraries below.
+pub use r_inv_laws::r_inv;
+
 mod carried;
 mod moving;
 mod sweep;

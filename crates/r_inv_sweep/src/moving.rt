@@ -32,9 +32,9 @@ ghost use Rattle.r_inv_sweep.specs.Cost.{cost_moved, cost_out, exits_cost, uses_
 ghost use Rattle.r_inv_sweep.specs.Shape.{IsShape};
 
 use crate::carried::Shape;
-use g_arena::Arena;
 use g_graph::{Op, Origin, Rule, Step};
 use no_memory::NoMemory;
+use r_sweep::g_arena::Arena;
 use r_sweep::{move_uses, remove_exit};
 use std::sync::ledger::Ledger;
 use steps::Steps;

@@ -16,9 +16,9 @@ ghost use Rattle.r_inv_sweep.specs.Cost.{IsThere, cost_left};
 
 use crate::carried::{Shape, can_carry, carried};
 use crate::moving::redirect;
-use g_arena::Arena;
 use g_graph::Step;
 use no_memory::NoMemory;
+use r_sweep::g_arena::Arena;
 use std::alloc::Global;
 use std::sync::ledger::Ledger;
 use steps::Steps;
@@ -42,7 +42,7 @@ pub fn sweep_fast<L: Ledger>(
     ensures looks { (l : PlainLambda) → StandsFor arena.old l → IsWellFormed l →
         looks.new ≤ looks.old + 3 * lambda_size l }
 {
-    r_inv::laws::inv_keeps_meaning();
+    r_inv_laws::r_inv::laws::inv_keeps_meaning();
     r_inv_laws::laws::inv_is_listed();
     let mut next = match arena.ends(looks) {
         Some((first, _)) => Some(first),

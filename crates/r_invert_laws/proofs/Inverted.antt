@@ -16,9 +16,9 @@ use Rattle.g_graph.proofs.lemmas.Redirects.{nodes_ids-redirected, region_ids-red
 use Rattle.g_graph.proofs.lemmas.Splices.{nodes_ids-joined}
 use Rattle.g_mean.specs.Copies.{IsAmong}
 use Rattle.g_mean.proofs.lemmas.Copies.{among-right, among-split}
-use Rattle.r_copy.specs.Numbering.{node_count, number_from, region_numbered}
-use Rattle.r_copy.proofs.lemmas.Numbering.{copied-ids}
-use Rattle.r_edit.specs.Origins.{origins_from}
+use Rattle.r_invert.specs.r_copy.Numbering.{node_count, number_from, region_numbered}
+use Rattle.r_invert.proofs.of_r_copy.lemmas.Numbering.{copied-ids}
+use Rattle.r_invert.specs.r_edit.Origins.{origins_from}
 use Rattle.r_invert.specs.Compose.{in_sequence, alone}
 use Rattle.r_invert.specs.Rule.{Parts, parts_of, turn, remaining, choice, inverted, new_nodes, may_invert, in_place}
 use Rattle.r_walk_def.specs.Laws.{AreOutputsAmong}

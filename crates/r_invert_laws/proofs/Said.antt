@@ -12,7 +12,7 @@ use Rattle.g_graph.specs.WellFormed.{IsWellFormed}
 use Rattle.g_graph.proofs.lemmas.Splices.{nodes_ids-joined}
 use Rattle.g_mean.specs.Copies.{IsAmong}
 use Rattle.g_mean.proofs.lemmas.Copies.{among-right}
-use Rattle.r_copy.specs.Numbering.{node_count}
+use Rattle.r_invert.specs.r_copy.Numbering.{node_count}
 use Rattle.r_invert.specs.Rule.{in_place, ivt_here, body_inverted, applies, with_body, ivt}
 use Rattle.r_walk_def.specs.Context.{ChangesOnlyAt, IsContext}
 use Rattle.r_walk_def.specs.Laws.{region_with, Becomes, IsSaid}

@@ -1,7 +1,7 @@
 -- Inversion as a walk asks it: what it says of a node.
 use Rattle.std.specs.Prelude.{Option, None, Some}
 use Rattle.g_graph.specs.Plain.{RegionTree, nodes_in, results_of}
-use Rattle.r_copy.specs.Numbering.{node_count}
+use Rattle.r_invert.specs.r_copy.Numbering.{node_count}
 use Rattle.r_invert.specs.Rule.{in_place}
 use Rattle.r_walk_def.specs.Walk.{Part, stays, becomes, Asked}
 

@@ -2,7 +2,7 @@
 use Rattle.g_graph.specs.declared.steps.Rule.TheVariants.{Invert}
 use Rattle.r_invert.specs.Rule.{applies, ivt}
 use Rattle.r_invert_laws.specs.Asked.{invert_asked}
-use Rattle.r_sweep_def.specs.Swept.{Change}
+use Rattle.r_walk_def.specs.r_sweep_def.Swept.{Change}
 use Rattle.r_walk_def.specs.Laws.{IsLocal}
 
 abbrev pub invert_change : Change

@@ -14,10 +14,10 @@ use Rattle.g_graph.specs.Replace.{region_redirected}
 use Rattle.g_graph.specs.Splice.{args_to_inputs}
 use Rattle.g_graph.specs.WellFormed.{IsWellFormed}
 use Rattle.g_graph.proofs.lemmas.Redirects.{region_ids-redirected}
-use Rattle.r_copy.specs.Numbering.{node_count}
-use Rattle.r_edit.specs.Size.{may_change_size}
-use Rattle.r_invert.specs.Rule.{Parts, parts_of, can_count, growth, in_place, inverted, loop_values, may_invert, new_nodes}
-use Rattle.r_invert.specs.Sound.{AreSound}
+use Rattle.r_walk.specs.r_copy.Numbering.{node_count}
+use Rattle.r_invert_laws.specs.r_edit.Size.{may_change_size}
+use Rattle.r_invert_laws.specs.r_invert.Rule.{Parts, parts_of, can_count, growth, in_place, inverted, loop_values, may_invert, new_nodes}
+use Rattle.r_invert_laws.specs.r_invert.Sound.{AreSound}
 use Rattle.r_invert_laws.proofs.Inverted.{inverted_count}
 use Rattle.r_invert_laws.specs.Asked.{part_of, invert_asked}
 use Rattle.r_invert_laws.specs.Laws.{invert_change, InvertIsLocal}
@@ -25,8 +25,8 @@ use Rattle.r_invert_walk.specs.Asked.{made_at}
 use Rattle.r_sweep_def.specs.Swept.{Logged, swept_by}
 use Rattle.r_walk.specs.Asks as asks
 use Rattle.r_walk.specs.declared.rule.New.{New}
-use Rattle.r_walk_def.specs.Laws.{WalksAreSweeps}
-use Rattle.r_walk_def.specs.Walk.{walked}
+use Rattle.r_walk.specs.r_walk_def.Laws.{WalksAreSweeps}
+use Rattle.r_walk.specs.r_walk_def.Walk.{walked}
 
 asked_is : asks.asked_by made_at ≡ invert_asked
 asked_is = λ i values next before uses x. by (in_place values next x) i

@@ -2,8 +2,8 @@
 use Rattle.std.specs.Prelude.{ℕ, option_map}
 use Rattle.std.specs.declared.option.Option.{Option}
 use Rattle.g_graph.specs.Plain.{NodeTree, nodes_in, results_of}
-use Rattle.r_copy.specs.Numbering.{node_count}
-use Rattle.r_invert.specs.Rule.{in_place}
+use Rattle.r_walk.specs.r_copy.Numbering.{node_count}
+use Rattle.r_invert_laws.specs.r_invert.Rule.{in_place}
 use Rattle.r_walk.specs.Asks.{Made}
 
 -- the nodes of the region that comes, all with new numbers; its results become the node's outputs

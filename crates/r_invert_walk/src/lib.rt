@@ -3,6 +3,9 @@
 //! one after the other.
 #![tactic(auto)]
 
+// What is passed on of the libraries below.
+pub use r_invert_laws::r_invert;
+
 mod sweep;
 
 pub use sweep::sweep_fast;

@@ -5,21 +5,21 @@ ghost use Rattle.g_graph.specs.Ids.{region_ids};
 ghost use Rattle.g_graph.specs.Plain.{node, nodes_in, nodes_of, regions_of, results_of};
 ghost use Rattle.g_graph.specs.WellFormed.{IsWellFormed};
 ghost use Rattle.g_graph.specs.declared.steps.Rule.TheVariants.{Invert};
-ghost use Rattle.r_copy.specs.Numbering.{node_count};
+ghost use Rattle.r_walk.specs.r_copy.Numbering.{node_count};
 ghost use Rattle.r_invert_laws.specs.Laws.{invert_change};
 ghost use Rattle.r_invert_walk.specs.Asked.{made_at};
 ghost use Rattle.r_sweep_def.specs.Swept.{swept_by};
-ghost use Rattle.g_mean.specs.Copies.{AllClosed};
+ghost use Rattle.r_invert_laws.specs.g_mean.Copies.{AllClosed};
 ghost use Rattle.r_walk.specs.Asks.{asked_by, made_of, AreSoundIn};
 ghost use Rattle.r_walk.specs.Walks.{HasGained};
 
 use g_graph::{Lambda, Op, Origin, Region, Rule, Step};
 use no_memory::NoMemory;
-use r_copy::numbers_left;
-use r_invert::inverted_node;
 use r_invert_laws::laws::invert_is_local;
+use r_invert_laws::r_invert::inverted_node;
+use r_invert_laws::r_walk_laws::laws::walks_are_sweeps;
+use r_walk::r_copy::numbers_left;
 use r_walk::{New, Said, Uses, WalkRule, Words, becomes_or_stays, walk};
-use r_walk_laws::laws::walks_are_sweeps;
 use std::alloc::Global;
 
 /// What a sweep of inversion makes of a lambda: the rule is tried at each node that the lambda has,

@@ -1,3 +1,5 @@
 pub mod Rule
 pub mod Laws
 pub mod Edit
+-- What is passed on of the libraries below.
+pub use Rattle.r_edit.specs as r_edit

@@ -20,8 +20,8 @@ use Rattle.g_graph.proofs.lemmas.Indexes.{same_number_true}
 use Rattle.g_mean.specs.Copies.{IsAmong, AreRead, NodesRead, known_after, is_argument}
 use Rattle.g_mean.proofs.lemmas.Copies.{among-split}
 use Rattle.g_mean.proofs.lemmas.Splices.{joined-read, known-among}
-use Rattle.r_edit.specs.Uses.{nodes_read, is_output_of}
-use Rattle.r_edit.specs.Removal.{nodes_without}
+use Rattle.r_pull.specs.r_edit.Uses.{nodes_read, is_output_of}
+use Rattle.r_pull.specs.r_edit.Removal.{nodes_without}
 use Rattle.r_pull.specs.Rule as rule
 use Rattle.r_pull.specs.Rule.{node_uses, only_user, user_changed, gamma_pulled, added, gone, copies_of, into, pull_of, where_fits, pull_at, region_pulled, pll_here, copies_here, copies_at, region_answer, applies, pll}
 use Rattle.r_pull.specs.Laws.{PllIsAStep}

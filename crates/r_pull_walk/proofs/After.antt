@@ -7,8 +7,8 @@ use Rattle.g_graph.specs.declared.op.Origin.TheVariants.{Arg, Out}
 use Rattle.g_graph.specs.Plain.{NodeTree, node, no_nodes, node_then, RegionTrees, inputs_in}
 use Rattle.g_graph.specs.WellFormed.{some_of}
 use Rattle.g_graph.proofs.lemmas.Unique.{same_number}
-use Rattle.r_edit.specs.Uses.{is_output_of}
-use Rattle.r_edit.specs.Places.{kept}
+use Rattle.r_pull.specs.r_edit.Uses.{is_output_of}
+use Rattle.r_pull.specs.r_edit.Places.{kept}
 use Rattle.r_pull.specs.Rule.{other_entries, inputs_carried, copies_of, gamma_pulled}
 use Rattle.r_pull.specs.Edit.{takes, pull_into}
 use Rattle.r_pull.proofs.Found.{none_carried, all_carried}

@@ -7,7 +7,7 @@ use Rattle.g_graph.specs.Plain.{NodeTree}
 use Rattle.g_graph.specs.WellFormed.{some_of}
 use Rattle.g_graph.proofs.lemmas.Indexes.{same_number_true}
 use Rattle.g_graph.proofs.lemmas.Unique.{same_number}
-use Rattle.r_edit.specs.Uses.{is_output_of}
+use Rattle.r_pull.specs.r_edit.Uses.{is_output_of}
 use Rattle.r_pull.specs.Edit.{takes}
 use Rattle.r_pull.specs.Rule.{node_uses}
 use Rattle.r_pull_walk.specs.declared.users.User.{User}

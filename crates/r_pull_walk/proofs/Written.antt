@@ -8,7 +8,7 @@ use Rattle.g_graph.specs.Plain.{region, NodeTree, node, NodeTrees, no_nodes, nod
 use Rattle.g_graph.specs.Signatures.{is_pure}
 use Rattle.g_graph.specs.WellFormed.{some_of}
 use Rattle.g_graph.proofs.lemmas.Unique.{same_number}
-use Rattle.r_edit.specs.Uses.{nodes_read, is_output_of}
+use Rattle.r_pull.specs.r_edit.Uses.{nodes_read, is_output_of}
 use Rattle.r_pull.specs.Rule.{node_uses, only_user, user_changed, where_fits, Pull}
 use Rattle.r_pull.specs.Edit.{takes, where_takes, user_of, pull_into}
 use Rattle.r_pull.proofs.Found.{pull_seen_of}

@@ -3,6 +3,9 @@
 //! from the last to the first, one after the other.
 #![tactic(auto)]
 
+// What is passed on of the libraries below.
+pub use r_pull;
+
 mod counts;
 mod put;
 mod sweep;

@@ -2,7 +2,7 @@
 
 ghost use Rattle.std.specs.Prelude.{◌≡◌, ◌==◌, ℕ, [], OnOk, IfOk, if◌then◌else◌};
 ghost use Rattle.g_graph.specs.Plain.{id_of, inputs_in};
-ghost use Rattle.r_edit.specs.Uses.{is_output_of};
+ghost use Rattle.r_pull.specs.r_edit.Uses.{is_output_of};
 ghost use Rattle.r_pull_walk.specs.declared.users.User.TheVariants.{Nobody, Entries, Others};
 ghost use Rattle.r_pull_walk.specs.Users.{both_use, used_by, is_gamma, gamma_user, node_user, user_in, AreUsers, carried_with, user_after};
 

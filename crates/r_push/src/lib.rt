@@ -4,6 +4,9 @@
 //! Always: out of memory, the lambda is as it was.
 #![tactic(auto)]
 
+// What is passed on of the libraries below.
+pub use r_edit;
+
 mod carry;
 mod find;
 mod grow;

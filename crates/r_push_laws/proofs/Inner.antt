@@ -25,7 +25,7 @@ use Rattle.g_mean.specs.Copies.{IsAmong}
 use Rattle.g_mean.specs.Edits.{IsPartOf}
 use Rattle.g_mean.proofs.lemmas.Inside.{node-here, as-many, regions-closed}
 use Rattle.r_push.specs.Edit.{outer}
-use Rattle.r_edit.specs.Size.{may_change_size}
+use Rattle.r_push.specs.r_edit.Size.{may_change_size}
 use Rattle.r_push.specs.Rule.{may_leave, pushed_within, psh_here, applies}
 use Rattle.r_push.proofs.Gammas.{AllTake}
 use Rattle.r_push.proofs.Replaced.{take-all}

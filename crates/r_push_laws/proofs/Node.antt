@@ -23,7 +23,7 @@ use Rattle.g_mean.proofs.lemmas.Copies.{among-right, test-other}
 use Rattle.g_mean.proofs.lemmas.Holds.{distinct-apart}
 use Rattle.g_mean.proofs.lemmas.Inside.{inputs-read}
 use Rattle.g_mean.proofs.lemmas.Splices.{joined-read}
-use Rattle.r_edit.specs.Size.{may_change_size}
+use Rattle.r_push.specs.r_edit.Size.{may_change_size}
 use Rattle.r_push.specs.Edit.{outer}
 use Rattle.r_push.specs.Rule.{psh}
 use Rattle.r_push.proofs.Stays.{known-own}

@@ -23,8 +23,8 @@ use Rattle.g_graph.proofs.lemmas.Indexes.{same_number_true}
 use Rattle.g_graph.proofs.lemmas.Redirects.{nodes_values-redirected}
 use Rattle.g_graph.proofs.lemmas.Splices.{nodes_values-joined}
 use Rattle.g_mean.specs.Copies.{IsAmong, IsClosed, AllClosed}
-use Rattle.r_edit.specs.Added.{result_added}
-use Rattle.r_edit.specs.Size.{may_change_size}
+use Rattle.r_push.specs.r_edit.Added.{result_added}
+use Rattle.r_push.specs.r_edit.Size.{may_change_size}
 use Rattle.r_push.specs.Edit.{outer}
 use Rattle.r_push.specs.Rule.{names_argument, may_leave, only, leaving, leaving_one, is_invariant, carried, regions_carried, looped, placed, growth, can_all_count, can_count, pushed, pushed_within, nodes_pushed, psh_here}
 use Rattle.r_push.proofs.Gammas.{AllTake}

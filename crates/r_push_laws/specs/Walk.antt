@@ -14,7 +14,7 @@ use Rattle.g_graph.specs.Scope.{same_origin}
 use Rattle.g_graph.specs.Signatures.{is_pure}
 use Rattle.g_graph.specs.Splice.{args_to_inputs, joined_nodes}
 use Rattle.g_graph.specs.WellFormed.{all_of}
-use Rattle.r_edit.specs.Size.{may_change_size}
+use Rattle.r_push.specs.r_edit.Size.{may_change_size}
 use Rattle.r_push.specs.Edit.{outer}
 use Rattle.r_sweep_def.specs.Swept.{Logged}
 use Rattle.r_walk_def.specs.Walk.{Moved, origin_now, inputs_of_nodes, is_in}

@@ -15,7 +15,7 @@ use Rattle.g_graph.specs.Plain.{RegionTree, region, NodeTree, node, NodeTrees, n
 use Rattle.g_graph.specs.Splice.{joined_nodes}
 use Rattle.g_graph.proofs.lemmas.Splices as splices
 use Rattle.g_graph.proofs.lemmas.Splices.{joined_assoc, nodes_of_append}
-use Rattle.r_push.specs.Edit.{outer}
+use Rattle.r_push_laws.specs.r_push.Edit.{outer}
 use Rattle.r_push_laws.specs.Walk.{Exit, exit_of, is_loop, Cursor, Walking, WrittenNodes, leaves, node_now, gone, stayed, all_grown, outputs_of_left, widened_by, entered, after, at_start, walk_nodes, walk_node, walk_region, walk_regions}
 use Rattle.r_walk.specs.Moves.{AreMoves, origin_in}
 use Rattle.r_walk.specs.Walks.{HasGained}

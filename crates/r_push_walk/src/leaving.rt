@@ -6,7 +6,7 @@ ghost use Rattle.g_graph.specs.Plain.{NodeTree, regions_in, regions_of, has_none
 ghost use Rattle.g_graph.specs.Replace.{node_redirected};
 ghost use Rattle.g_graph.specs.Splice.{args_to_inputs};
 ghost use Rattle.g_graph.specs.WellFormed.{all_of};
-ghost use Rattle.r_edit.specs.Size.{may_change_size};
+ghost use Rattle.r_push_laws.specs.r_edit.Size.{may_change_size};
 ghost use Rattle.r_push_laws.specs.Walk.{Cursor, is_open, growth_of, is_kept, moved_result, goes_along, leaves, node_now, gone};
 ghost use Rattle.r_walk.specs.Moves.{AreMoves, origin_in};
 ghost use Rattle.r_walk.specs.Walks.{HasGained};
@@ -19,7 +19,7 @@ use g_graph::{
     ArgsToInputs, Node, Origin, Region, Rule, Step, is_pure, redirect_origins, same_origin,
 };
 use no_memory::NoMemory;
-use r_edit::may_change_size;
+use r_push_laws::r_edit::may_change_size;
 use r_walk::{Moves, Uses};
 use std::alloc::Global;
 

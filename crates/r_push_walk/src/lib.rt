@@ -3,6 +3,9 @@
 //! one after the other.
 #![tactic(auto)]
 
+// What is passed on of the libraries below.
+pub use r_push_laws::r_push;
+
 mod exit;
 mod leaving;
 mod now;

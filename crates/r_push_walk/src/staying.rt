@@ -2,7 +2,7 @@
 
 ghost use Rattle.std.specs.Prelude.{◌≡◌, ◌++◌, ◌∷◌, [], map, IfOk, OnOk, length};
 ghost use Rattle.g_graph.specs.Plain.{inputs_in, regions_of};
-ghost use Rattle.r_push.specs.Edit.{outer};
+ghost use Rattle.r_push_laws.specs.r_push.Edit.{outer};
 ghost use Rattle.r_push_laws.specs.Walk.{is_loop, grown_by_one, grown, all_grown, outputs_of_left};
 ghost use Rattle.r_walk.specs.Moves.{origin_in};
 ghost use Rattle.r_push_walk.specs.Walks.{exit_in, remade};

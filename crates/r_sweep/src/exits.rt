@@ -2,7 +2,7 @@
 
 ghost use Rattle.std.specs.Prelude.{◌≡◌, ◌+◌};
 ghost use Rattle.g_arena_def.specs.Flat.{place_in};
-ghost use Rattle.g_arena_laws.specs.Removals.{exit_removed};
+ghost use Rattle.r_sweep_laws.specs.g_arena_laws.Removals.{exit_removed};
 ghost use Rattle.r_sweep.specs.Exit.{IsExit};
 
 use g_arena::Arena;

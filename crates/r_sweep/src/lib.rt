@@ -4,6 +4,9 @@
 //! taken.
 #![tactic(auto)]
 
+// What is passed on of the libraries below.
+pub use g_arena;
+
 mod exits;
 mod moving;
 

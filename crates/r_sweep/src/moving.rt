@@ -1,14 +1,14 @@
 //! Uses that move.
 
 ghost use Rattle.std.specs.Prelude.{◌≡◌, ◌+◌, false};
-ghost use Rattle.g_graph.specs.Scope.{same_origin};
+ghost use Rattle.g_arena_def.specs.g_graph.Scope.{same_origin};
 ghost use Rattle.g_arena_def.specs.Reads.{kind_in, uses_in};
 ghost use Rattle.g_arena_def.specs.Conditions.{IsOrigin};
-ghost use Rattle.g_arena_laws.specs.Removals.{uses_moved};
+ghost use Rattle.r_sweep_laws.specs.g_arena_laws.Removals.{uses_moved};
 
 use g_arena::Arena;
 use g_arena_def::Place;
-use g_graph::Origin;
+use g_arena_def::g_graph::Origin;
 use std::sync::ledger::Ledger;
 use steps::Steps;
 

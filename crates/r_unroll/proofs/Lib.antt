@@ -11,3 +11,5 @@ mod Found
 mod Made
 mod Followed
 mod Nodes
+-- What is passed on of the libraries below.
+pub use Rattle.r_copy.proofs as of_r_copy

@@ -15,8 +15,8 @@ use Rattle.g_graph.specs.Views.{same_op}
 use Rattle.g_graph.proofs.lemmas.Splices.{nodes_ids-joined}
 use Rattle.g_mean.specs.Copies.{IsAmong, renumbered, region_copied, nodes_moved, regions_copied}
 use Rattle.g_mean.proofs.lemmas.Copies.{among-split}
-use Rattle.r_copy.specs.Numbering.{node_count, number_from, region_numbered}
-use Rattle.r_copy.proofs.lemmas.Numbering.{copied-ids}
+use Rattle.r_unroll.specs.r_copy.Numbering.{node_count, number_from, region_numbered}
+use Rattle.r_unroll.proofs.of_r_copy.lemmas.Numbering.{copied-ids}
 use Rattle.r_walk_laws.proofs.lemmas.Copies.{copies_are_new}
 use Rattle.r_unroll.specs.Rule.{region_loops, node_loops, nodes_loop, regions_loop, second_turn_of, unrolled, node_unrolled, url_here}
 

@@ -18,11 +18,11 @@ use Rattle.g_graph.specs.Splice.{joined_nodes}
 use Rattle.g_graph.specs.WellFormed.{IsWellFormed}
 use Rattle.g_mean.specs.Copies.{IsAmong}
 use Rattle.g_mean.proofs.lemmas.Copies.{among-left, among-split}
-use Rattle.r_copy.specs.Numbering.{node_count}
-use Rattle.r_edit.specs.Size.{may_change_size}
+use Rattle.r_unroll.specs.r_copy.Numbering.{node_count}
+use Rattle.r_unroll.specs.r_edit.Size.{may_change_size}
 use Rattle.r_unroll.specs.Rule.{region_loops, unrolled, growth, may_unroll, node_unrolled, url_here, body_unrolled, applies, with_body, url}
-use Rattle.r_walk_def.specs.Context.{ChangesOnlyAt, IsContext}
-use Rattle.r_walk_def.specs.Laws.{region_with, Becomes, IsSaid}
+use Rattle.r_walk_laws.specs.r_walk_def.Context.{ChangesOnlyAt, IsContext}
+use Rattle.r_walk_laws.specs.r_walk_def.Laws.{region_with, Becomes, IsSaid}
 use Rattle.r_walk_laws.proofs.lemmas.Local.{not_found, found_here, set_at, absent, not_before, changed_at, unchanged_at, count_now, unchanged_within}
 use Rattle.r_unroll_laws.specs.Asked.{part_of, unroll_asked}
 use Rattle.r_unroll_laws.specs.Laws.{unroll_change, UnrollIsLocal}

@@ -1,9 +1,9 @@
 -- Unrolling as a walk asks it: what it says of a node.
 use Rattle.std.specs.Prelude.{ℕ, ◌+◌, [], Option, None, Some}
 use Rattle.g_graph.specs.Plain.{NodeTree, node, no_nodes, node_then, no_regions, region_then}
-use Rattle.r_copy.specs.Numbering.{node_count}
+use Rattle.r_unroll.specs.r_copy.Numbering.{node_count}
 use Rattle.r_unroll.specs.Rule.{node_unrolled}
-use Rattle.r_walk_def.specs.Walk.{Part, stays, becomes, Asked}
+use Rattle.r_walk_laws.specs.r_walk_def.Walk.{Part, stays, becomes, Asked}
 
 -- the numbers that an unrolled loop takes: of the Gamma, of the Const, and of the copy of its region
 abbrev pub numbers_taken : NodeTree → ℕ

@@ -1,9 +1,9 @@
 -- The law of the rule in a walk.
 use Rattle.g_graph.specs.declared.steps.Rule.TheVariants.{Unroll}
-use Rattle.r_sweep_def.specs.Swept.{Change}
+use Rattle.r_walk_laws.specs.r_sweep_def.Swept.{Change}
 use Rattle.r_unroll.specs.Rule.{applies, url}
 use Rattle.r_unroll_laws.specs.Asked.{unroll_asked}
-use Rattle.r_walk_def.specs.Laws.{IsLocal}
+use Rattle.r_walk_laws.specs.r_walk_def.Laws.{IsLocal}
 
 abbrev pub unroll_change : Change
 unroll_change = record { rule = Unroll; applies = applies; changed = url }

@@ -5,14 +5,14 @@ use Rattle.g_graph.specs.Ids.{region_ids}
 use Rattle.g_graph.specs.Plain.{NodeTree, node, no_nodes, node_then, no_regions, region_then, regions_in}
 use Rattle.g_graph.specs.WellFormed.{IsWellFormed}
 use Rattle.r_sweep_def.specs.Swept.{Logged, swept_by}
-use Rattle.r_unroll.specs.Edit.{loop_numbers}
-use Rattle.r_unroll.specs.Rule.{node_unrolled}
+use Rattle.r_unroll_laws.specs.r_unroll.Edit.{loop_numbers}
+use Rattle.r_unroll_laws.specs.r_unroll.Rule.{node_unrolled}
 use Rattle.r_unroll_laws.specs.Asked.{numbers_taken, part_of, unroll_asked}
 use Rattle.r_unroll_laws.specs.Laws.{unroll_change, UnrollIsLocal}
 use Rattle.r_unroll_walk.specs.Asked.{made_at}
 use Rattle.r_walk.specs.Asks as asks
-use Rattle.r_walk_def.specs.Laws.{WalksAreSweeps}
-use Rattle.r_walk_def.specs.Walk.{walked}
+use Rattle.r_walk.specs.r_walk_def.Laws.{WalksAreSweeps}
+use Rattle.r_walk.specs.r_walk_def.Walk.{walked}
 
 asked_is : asks.asked_by made_at ≡ unroll_asked
 asked_is = λ i values next before uses x. same values next x i

@@ -3,8 +3,8 @@ use Rattle.std.specs.Prelude.{ℕ, []}
 use Rattle.std.specs.Prelude.{option_map}
 use Rattle.std.specs.declared.option.Option.{Option}
 use Rattle.g_graph.specs.Plain.{NodeTree, no_nodes, node_then, regions_in}
-use Rattle.r_unroll.specs.Edit.{loop_numbers}
-use Rattle.r_unroll.specs.Rule.{node_unrolled}
+use Rattle.r_unroll_laws.specs.r_unroll.Edit.{loop_numbers}
+use Rattle.r_unroll_laws.specs.r_unroll.Rule.{node_unrolled}
 use Rattle.r_walk.specs.Asks.{Made}
 
 -- the unrolled node alone, which gives the same outputs

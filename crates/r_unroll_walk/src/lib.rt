@@ -3,6 +3,9 @@
 //! one after the other.
 #![tactic(auto)]
 
+// What is passed on of the libraries below.
+pub use r_unroll_laws::r_unroll;
+
 mod sweep;
 
 pub use sweep::sweep_fast;

@@ -5,7 +5,7 @@ ghost use Rattle.g_graph.specs.Ids.{region_ids};
 ghost use Rattle.g_graph.specs.Plain.{node, regions_of};
 ghost use Rattle.g_graph.specs.WellFormed.{IsWellFormed};
 ghost use Rattle.g_graph.specs.declared.steps.Rule.TheVariants.{Unroll};
-ghost use Rattle.g_mean.specs.Copies.{AllClosed};
+ghost use Rattle.r_unroll_laws.specs.g_mean.Copies.{AllClosed};
 ghost use Rattle.r_sweep_def.specs.Swept.{swept_by};
 ghost use Rattle.r_unroll_laws.specs.Laws.{unroll_change};
 ghost use Rattle.r_unroll_walk.specs.Asked.{made_at};
@@ -14,10 +14,10 @@ ghost use Rattle.r_walk.specs.Walks.{HasGained};
 
 use g_graph::{Lambda, Op, Origin, Region, Rule, Step};
 use no_memory::NoMemory;
-use r_unroll::{UnrolledNode, unrolled_node};
 use r_unroll_laws::laws::unroll_is_local;
+use r_unroll_laws::r_unroll::{UnrolledNode, unrolled_node};
+use r_unroll_laws::r_walk_laws::laws::walks_are_sweeps;
 use r_walk::{New, Said, Uses, WalkRule, Words, becomes_or_stays, walk};
-use r_walk_laws::laws::walks_are_sweeps;
 use std::alloc::Global;
 
 /// What a sweep of unrolling makes of a lambda: the rule is tried at each node that the lambda has,

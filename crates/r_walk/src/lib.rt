@@ -3,6 +3,9 @@
 //! Always: the old nodes are only read, and a walk takes time n log n beside what the rule takes.
 #![tactic(auto)]
 
+// What is passed on of the libraries below.
+pub use r_copy;
+
 mod counts;
 mod moves;
 mod rule;

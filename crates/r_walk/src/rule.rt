@@ -2,7 +2,7 @@
 
 ghost use Rattle.std.specs.Prelude.{◌≡◌, IfOk};
 ghost use Rattle.g_graph.specs.Plain.{node, regions_of};
-ghost use Rattle.g_mean.specs.Copies.{AllClosed};
+ghost use Rattle.r_copy.specs.g_mean.Copies.{AllClosed};
 ghost use Rattle.r_walk.specs.Around.{IsAround};
 ghost use Rattle.r_walk.specs.Asks.{made_of, part_of, said_of, AreSoundIn};
 

@@ -7,7 +7,7 @@ ghost use Rattle.g_graph.specs.Plain.{region, NodeTrees, args_of, nodes_of, regi
 ghost use Rattle.g_graph.specs.Count.{node_values};
 ghost use Rattle.g_graph.specs.Splice.{joined_nodes};
 ghost use Rattle.g_graph.specs.WellFormed.{IsWellFormed};
-ghost use Rattle.g_mean.specs.Copies.{IsClosed, AllClosed};
+ghost use Rattle.r_copy.specs.g_mean.Copies.{IsClosed, AllClosed};
 ghost use Rattle.g_graph.specs.declared.steps.Step.{Step};
 ghost use Rattle.r_walk_def.specs.Walk.{Cursor, inputs_of_nodes, results_used, walk_region, walk_regions, walk_nodes, walk_node, open_at, walked};
 ghost use Rattle.r_walk.specs.Around.{AreWords, AreUses};

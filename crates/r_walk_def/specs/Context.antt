@@ -1,9 +1,9 @@
 -- What stands around a region in the body of a lambda.
 use Rattle.std.specs.Prelude.{◌≡◌, ◌+◌, ℕ, false, List, ◌++◌, length, Option, None, option_map}
-use Rattle.g_graph.specs.Change.{region_changed, has_node}
-use Rattle.g_graph.specs.Count.{region_values}
-use Rattle.g_graph.specs.Ids.{region_ids}
-use Rattle.g_graph.specs.Plain.{RegionTree, RegionTrees, no_regions, region_then, args_of, nodes_in, results_of, PlainLambda}
+use Rattle.g_mean.specs.g_graph.Change.{region_changed, has_node}
+use Rattle.g_mean.specs.g_graph.Count.{region_values}
+use Rattle.g_mean.specs.g_graph.Ids.{region_ids}
+use Rattle.g_mean.specs.g_graph.Plain.{RegionTree, RegionTrees, no_regions, region_then, args_of, nodes_in, results_of, PlainLambda}
 use Rattle.g_mean.specs.Copies.{IsAmong}
 use Rattle.g_mean.specs.Edits.{IsPartOf}
 

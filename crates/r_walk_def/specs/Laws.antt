@@ -1,14 +1,14 @@
 -- What is asked of a rule so that a walk of it is its sweep.
 use Rattle.std.specs.Prelude.{◌≡◌, ◌+◌, ◌<◌, ℕ, zero, suc, true, false, List, [], ◌∷◌, ◌++◌, map, Option, None, Some}
-use Rattle.g_graph.specs.declared.op.Kind.{Kind}
-use Rattle.g_graph.specs.declared.op.Origin.{Origin}
-use Rattle.g_graph.specs.declared.op.Origin.TheVariants.{Arg, Out}
-use Rattle.g_graph.specs.Ids.{region_ids, node_ids, nodes_ids, regions_ids}
-use Rattle.g_graph.specs.Plain.{RegionTree, region, NodeTree, NodeTrees, node_then, RegionTrees, no_regions, region_then, id_of, regions_in, PlainLambda}
-use Rattle.g_graph.specs.Program.{lambda_values}
-use Rattle.g_graph.specs.Replace.{nodes_redirected}
-use Rattle.g_graph.specs.Splice.{outputs_to_results, args_to_inputs, joined_nodes}
-use Rattle.g_graph.specs.WellFormed.{IsWellFormed}
+use Rattle.g_mean.specs.g_graph.declared.op.Kind.{Kind}
+use Rattle.g_mean.specs.g_graph.declared.op.Origin.{Origin}
+use Rattle.g_mean.specs.g_graph.declared.op.Origin.TheVariants.{Arg, Out}
+use Rattle.g_mean.specs.g_graph.Ids.{region_ids, node_ids, nodes_ids, regions_ids}
+use Rattle.g_mean.specs.g_graph.Plain.{RegionTree, region, NodeTree, NodeTrees, node_then, RegionTrees, no_regions, region_then, id_of, regions_in, PlainLambda}
+use Rattle.g_mean.specs.g_graph.Program.{lambda_values}
+use Rattle.g_mean.specs.g_graph.Replace.{nodes_redirected}
+use Rattle.g_mean.specs.g_graph.Splice.{outputs_to_results, args_to_inputs, joined_nodes}
+use Rattle.g_mean.specs.g_graph.WellFormed.{IsWellFormed}
 use Rattle.g_mean.specs.Copies.{IsAmong}
 use Rattle.r_sweep_def.specs.Swept.{Logged, Change, swept_by}
 use Rattle.r_walk_def.specs.Walk.{Part, stays, becomes, opened, Asked, is_in, inputs_of_nodes, results_from, walked}

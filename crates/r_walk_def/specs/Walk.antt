@@ -1,17 +1,17 @@
 -- A walk of one rule over a lambda: it goes along the nodes in pre-order, writes each as it then is, and reads those after
 -- it as they were. What became of outputs is kept in a list.
 use Rattle.std.specs.Prelude.{ℕ, zero, suc, ◌+◌, ◌-◌, ◌==◌, if◌then◌else◌, Bool, List, [], ◌∷◌, ◌++◌, map, drop, slice_get, unwrap_or}
-use Rattle.g_graph.specs.declared.op.Origin.{Origin}
-use Rattle.g_graph.specs.declared.op.Origin.TheVariants.{Arg, Out}
-use Rattle.g_graph.specs.declared.steps.Rule.{Rule}
-use Rattle.g_graph.specs.declared.steps.Step.{Step}
-use Rattle.g_graph.specs.Plain.{RegionTree, region, NodeTree, node, NodeTrees, no_nodes, node_then, RegionTrees, no_regions, region_then, id_of}
-use Rattle.g_graph.specs.Count.{node_values, nodes_values}
-use Rattle.g_graph.specs.Program.{lambda_values}
-use Rattle.g_graph.specs.Replace.{node_redirected}
-use Rattle.g_graph.specs.Scope.{same_origin}
-use Rattle.g_graph.specs.Splice.{args_to_inputs, joined_nodes}
-use Rattle.g_graph.specs.WellFormed.{some_of}
+use Rattle.g_mean.specs.g_graph.declared.op.Origin.{Origin}
+use Rattle.g_mean.specs.g_graph.declared.op.Origin.TheVariants.{Arg, Out}
+use Rattle.g_mean.specs.g_graph.declared.steps.Rule.{Rule}
+use Rattle.g_mean.specs.g_graph.declared.steps.Step.{Step}
+use Rattle.g_mean.specs.g_graph.Plain.{RegionTree, region, NodeTree, node, NodeTrees, no_nodes, node_then, RegionTrees, no_regions, region_then, id_of}
+use Rattle.g_mean.specs.g_graph.Count.{node_values, nodes_values}
+use Rattle.g_mean.specs.g_graph.Program.{lambda_values}
+use Rattle.g_mean.specs.g_graph.Replace.{node_redirected}
+use Rattle.g_mean.specs.g_graph.Scope.{same_origin}
+use Rattle.g_mean.specs.g_graph.Splice.{args_to_inputs, joined_nodes}
+use Rattle.g_mean.specs.g_graph.WellFormed.{some_of}
 use Rattle.r_sweep_def.specs.Swept.{Logged}
 
 -- ---- what a rule says of a node

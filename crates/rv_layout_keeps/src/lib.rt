@@ -2,4 +2,7 @@
 //! Nothing in it runs.
 #![tactic(auto)]
 
+// What is passed on of the libraries below.
+pub use s_select_keeps;
+
 pub mod laws;

@@ -8,7 +8,7 @@ use Rattle.c_check_def.specs.State.{State}
 use Rattle.c_check_def.specs.Leaves.{offset_of, begin_of}
 use Rattle.c_check_def.specs.Expressions.{expressions}
 use Rattle.c_check_def.specs.Statements.{Jumps, in_loop, in_switch, next_group, Groups, condition, subject, condition_clause, value_clause, label, more_labels, for_start, statement, items, groups, group}
-use Rattle.c_check_state.specs.Frames.{KeepsSlots}
+use Rattle.c_check_clause.specs.c_check_state.Frames.{KeepsSlots}
 use Rattle.c_check_arm.specs.Parts.{for_items}
 use Rattle.c_check_laws.proofs.lemmas.Later.{Later}
 use Rattle.c_check_laws.proofs.lemmas.States.{Step, step_then}

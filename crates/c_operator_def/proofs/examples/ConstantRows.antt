@@ -2,7 +2,7 @@
 use Rattle.std.specs.Prelude.{◌≡◌, refl, ◌^◌, true, false, Some, None}
 use Rattle.c_ast.specs.declared.operator.UnaryOp.TheVariants as unary_operator
 use Rattle.c_ast.specs.declared.operator.BinaryOp.TheVariants as binary_operator
-use Rattle.c_type.specs.Trees.{pointer_to, array_of}
+use Rattle.c_typed.specs.c_type.Trees.{pointer_to, array_of}
 use Rattle.c_typed.specs.Typed.{expr, constant, no_exprs, expr_then, comma}
 use Rattle.c_typed.specs.WellTyped.{int}
 use Rattle.c_operator_def.specs.declared.operand.Operand.TheVariants.{Value}

@@ -5,7 +5,7 @@ use Rattle.c_ast.specs.declared.operator.IncDec.TheVariants as step_operator
 use Rattle.c_ast.specs.declared.operator.UnaryOp.TheVariants as unary_operator
 use Rattle.c_ast.specs.declared.operator.BinaryOp.TheVariants as binary_operator
 use Rattle.c_ast.specs.declared.operator.AssignOp.TheVariants as assign_operator
-use Rattle.c_type.specs.Trees.{void_type, pointer_to, array_of}
+use Rattle.c_typed.specs.c_type.Trees.{void_type, pointer_to, array_of}
 use Rattle.c_typed.specs.WellTyped.{int, unsigned_int}
 use Rattle.c_operator_def.proofs.examples.Terms.{Term, char, unsigned_char, short, s, q, number, unsigned_number, variable, const_variable, binary, unary, conditional, index, member, assigned, step, cast, size, type, may_be_assigned}
 

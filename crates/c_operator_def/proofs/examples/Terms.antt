@@ -6,9 +6,9 @@ use Rattle.c_ast.specs.declared.operator.IncDec.{IncDec}
 use Rattle.c_ast.specs.declared.operator.UnaryOp.{UnaryOp}
 use Rattle.c_ast.specs.declared.operator.BinaryOp.{BinaryOp}
 use Rattle.c_ast.specs.declared.operator.AssignOp.{AssignOp}
-use Rattle.c_type.specs.declared.scalar.Scalar.TheVariants as scalar
-use Rattle.c_type.specs.Trees.{TypeTree, scalar_type, pointer_to, array_of, struct_type}
-use Rattle.c_type.specs.Layout.{Definitions}
+use Rattle.c_typed.specs.c_type.declared.scalar.Scalar.TheVariants as scalar
+use Rattle.c_typed.specs.c_type.Trees.{TypeTree, scalar_type, pointer_to, array_of, struct_type}
+use Rattle.c_typed.specs.c_type.Layout.{Definitions}
 use Rattle.c_typed.specs.Typed.{ExprTree, expr, constant, place, local}
 use Rattle.c_typed.specs.WellTyped.{int, unsigned_int}
 use Rattle.c_operator_def.specs.declared.operand.Operand.{Operand}

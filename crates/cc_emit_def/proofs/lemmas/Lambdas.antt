@@ -14,8 +14,8 @@ use Rattle.s_linear.specs.declared.frame.Frame.{Frame}
 use Rattle.s_sequence.proofs.lemmas.Instrs.{calls_keep_arguments, objects_are_there, widths_fit}
 use Rattle.s_sequence.proofs.lemmas.Named.{names_are_below}
 use Rattle.s_sequence.specs.Sequence.{sequenced}
-use Rattle.a_place.proofs.lemmas.Apart.{places_are_below_count}
-use Rattle.a_place.proofs.lemmas.Starting.{places_are_few}
+use Rattle.a_share_def.proofs.of_a_place.lemmas.Apart.{places_are_below_count}
+use Rattle.a_share_def.proofs.of_a_place.lemmas.Starting.{places_are_few}
 use Rattle.a_share_def.proofs.lemmas.Few.{shared_places_are_few}
 use Rattle.a_share_def.proofs.lemmas.Apart.{shared_places_are_counted}
 use Rattle.s_select.specs.Conditions.{CanSelect, IsFrameOf}

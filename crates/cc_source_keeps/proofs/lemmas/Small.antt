@@ -13,7 +13,7 @@ use Rattle.g_graph.specs.Program.{lambda_values}
 use Rattle.g_build_def.specs.Functions.{function_values, graph, lambdas_made}
 use Rattle.g_build_def.proofs.lemmas.Programs.{values_are_of_the_function}
 use Rattle.cc_source.specs.g_build.Passed.{first_large, limit_passed}
-use Rattle.c_check_laws.proofs.lemmas.Accepted.{none_above, get_none}
+use Rattle.cc_source.proofs.of_c_check_laws.lemmas.Accepted.{none_above, get_none}
 use Rattle.cc_source_keeps.specs.Laws.{UnlimitedAreSmall}
 use Rattle.g_graph.proofs.lemmas.Change.{none_map}
 use Rattle.val_core.proofs.lemmas.Options.{or_none}

@@ -9,7 +9,7 @@ use Rattle.g_graph.specs.WellFormed.{kinds_of}
 use Rattle.g_graph.specs.Splice.{joined_nodes}
 use Rattle.g_graph.proofs.lemmas.Indexes.{same_number_true}
 use Rattle.g_graph.proofs.lemmas.Unique.{times, times_append}
-use Rattle.g_mean.specs.Silent.{GivesNoState}
+use Rattle.r_edit.specs.g_mean.Silent.{GivesNoState}
 use Rattle.g_arena_def.specs.declared.place.Place.{Place}
 use Rattle.g_arena_def.specs.Flat.{FlatRegion, FlatNode, place_in, regions_flat, in_nodes, in_regions, flat_of, same_node, is_in}
 use Rattle.g_arena_def.specs.Edits.{regions_gone, nodes_without, node_removed}

@@ -13,7 +13,7 @@ use Rattle.g_graph.proofs.lemmas.Unique.{same_number, times, times_cons}
 use Rattle.g_mean.specs.Copies.{renumbered, region_copied, nodes_moved, regions_copied}
 use Rattle.r_copy.specs.Laws.{CopiesAreNumbered}
 use Rattle.r_copy.specs.Numbering.{number_from}
-use Rattle.val_core.specs.Numbers.{numbers_from}
+use Rattle.g_graph.specs.val_core.Numbers.{numbers_from}
 
 -- ---- the new number of each number
 

@@ -16,7 +16,7 @@ use Rattle.g_graph.proofs.lemmas.Indexes.{same_number_true}
 use Rattle.g_arena_def.specs.declared.place.Place.{Place}
 use Rattle.g_arena_def.specs.Flat.{FlatRegion, FlatNode, Flat, StandsFor, in_nodes, in_regions, flat_of, same_node, same_place}
 use Rattle.g_arena_def.specs.Reads.{found, region_at, times, input_uses}
-use Rattle.r_edit.specs.Uses.{nodes_read}
+use Rattle.g_arena_laws.specs.r_edit.Uses.{nodes_read}
 use Rattle.r_sweep_def.specs.Swept.{Change, swept_by}
 use Rattle.r_sweep_def.specs.Listed.{Listed, swept_in}
 use Rattle.g_arena_laws.proofs.lemmas.Outside.{AreOutside, AreApart, IsNone, none_of_both, none_of_rest, regions_apart, nodes_outside}

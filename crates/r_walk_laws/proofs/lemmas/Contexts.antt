@@ -19,11 +19,11 @@ use Rattle.g_graph.proofs.lemmas.Nests.{numbers_numbered}
 use Rattle.g_graph.proofs.lemmas.Numbers.{Numbered, numbered_left, numbered_right}
 use Rattle.g_graph.proofs.lemmas.Splices.{nodes_ids-joined, nodes_values-joined, every_in_nodes-joined}
 use Rattle.g_graph.proofs.lemmas.Unique.{same_number}
-use Rattle.g_mean.specs.Copies.{IsAmong}
-use Rattle.g_mean.specs.Edits.{IsPartOf}
-use Rattle.g_mean.proofs.lemmas.Closed.{region-closed}
-use Rattle.g_mean.proofs.lemmas.Copies.{among-left, among-right}
-use Rattle.g_mean.proofs.lemmas.Holds.{id-among}
+use Rattle.r_copy.specs.g_mean.Copies.{IsAmong}
+use Rattle.r_copy.specs.g_mean.Edits.{IsPartOf}
+use Rattle.r_copy.proofs.of_g_mean.lemmas.Closed.{region-closed}
+use Rattle.r_copy.proofs.of_g_mean.lemmas.Copies.{among-left, among-right}
+use Rattle.r_copy.proofs.of_g_mean.lemmas.Holds.{id-among}
 use Rattle.r_walk_def.specs.Context.{joined_regions, ChangesOnlyAt, HasShapeOf, IsContext}
 
 -- ---- regions one after the other

@@ -2,7 +2,7 @@
 use Rattle.std.proofs.Common.{ℕ, ◌≤◌, List, [], ◌∷◌, map, subst, inl, inr, arith}
 use Rattle.g_graph.specs.Ids.{region_ids}
 use Rattle.g_graph.specs.Plain.{RegionTree}
-use Rattle.g_mean.specs.Copies.{IsAmong}
+use Rattle.r_copy.specs.g_mean.Copies.{IsAmong}
 use Rattle.r_copy.specs.Numbering.{number_from, region_numbered}
 use Rattle.r_copy.proofs.lemmas.Numbering.{number_from-least, copied-ids}
 

@@ -20,11 +20,11 @@ use Rattle.g_graph.proofs.lemmas.Indexes.{same_number_true, has_node-joined}
 use Rattle.g_graph.proofs.lemmas.Redirects.{nodes_ids-redirected, nodes_unmoved, all_unmoved}
 use Rattle.g_graph.proofs.lemmas.Splices.{nodes_ids-joined}
 use Rattle.g_graph.proofs.lemmas.Unique.{same_number}
-use Rattle.g_mean.specs.Copies.{IsAmong}
-use Rattle.g_mean.specs.Edits.{IsPartOf}
-use Rattle.g_mean.proofs.lemmas.Copies.{among-left, among-right, among-split}
-use Rattle.g_mean.proofs.lemmas.Edits.{distinct-split}
-use Rattle.g_mean.proofs.lemmas.Holds.{id-among, distinct-apart}
+use Rattle.r_copy.specs.g_mean.Copies.{IsAmong}
+use Rattle.r_copy.specs.g_mean.Edits.{IsPartOf}
+use Rattle.r_copy.proofs.of_g_mean.lemmas.Copies.{among-left, among-right, among-split}
+use Rattle.r_copy.proofs.of_g_mean.lemmas.Edits.{distinct-split}
+use Rattle.r_copy.proofs.of_g_mean.lemmas.Holds.{id-among, distinct-apart}
 use Rattle.r_walk_def.specs.Context.{ChangesOnlyAt, IsContext}
 use Rattle.r_walk_def.specs.Laws.{region_with}
 use Rattle.r_walk_laws.proofs.lemmas.Contexts.{has_none, only_around, unchanged_without, nodes_changed_within, regions_unchanged_without, whole_part}

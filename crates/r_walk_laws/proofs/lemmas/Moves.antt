@@ -7,7 +7,7 @@ use Rattle.g_graph.specs.declared.op.Origin.TheVariants.{Arg, Out}
 use Rattle.g_graph.specs.Plain.{node, NodeTrees, no_nodes, node_then}
 use Rattle.g_graph.specs.Replace.{nodes_redirected}
 use Rattle.g_graph.specs.Splice.{args_to_inputs, joined_nodes}
-use Rattle.g_mean.specs.Copies.{IsAmong}
+use Rattle.r_copy.specs.g_mean.Copies.{IsAmong}
 use Rattle.r_walk_def.specs.Walk.{Moved, output_now, origin_now, inputs_of_nodes}
 
 -- ---- which outputs moved

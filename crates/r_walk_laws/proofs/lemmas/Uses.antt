@@ -11,8 +11,8 @@ use Rattle.g_graph.specs.Scope.{same_origin}
 use Rattle.g_graph.specs.Splice.{args_to_inputs, outputs_to_results}
 use Rattle.g_graph.proofs.lemmas.Indexes.{same_origin_self}
 use Rattle.g_graph.proofs.lemmas.Moved.{same_origin_true}
-use Rattle.g_mean.specs.Copies.{IsAmong, IsRead, AreRead, NodesRead}
-use Rattle.g_mean.proofs.lemmas.Copies.{among-right}
+use Rattle.r_copy.specs.g_mean.Copies.{IsAmong, IsRead, AreRead, NodesRead}
+use Rattle.r_copy.proofs.of_g_mean.lemmas.Copies.{among-right}
 use Rattle.r_walk_def.specs.Walk.{is_in, inputs_of_nodes, results_used}
 
 pub both_ways : (s t : Bool) → (s ≡ true → t ≡ true) → (t ≡ true → s ≡ true) → s ≡ t

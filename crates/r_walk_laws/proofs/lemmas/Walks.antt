@@ -18,15 +18,15 @@ use Rattle.g_graph.specs.Splice.{args_to_inputs, outputs_to_results, joined_node
 use Rattle.g_graph.specs.WellFormed.{IsWellFormed, distinct}
 use Rattle.g_graph.proofs.lemmas.Redirects.{nodes_ids-redirected, nodes_values-redirected, nodes_unmoved, all_unmoved}
 use Rattle.g_graph.proofs.lemmas.Splices.{joined_assoc, joined_none, nodes_ids-joined, nodes_values-joined}
-use Rattle.g_mean.specs.Copies.{IsAmong, IsRead, AreRead, NodesRead, known_after, is_argument, IsClosed, AllClosed}
-use Rattle.g_mean.specs.Edits.{IsPartOf}
-use Rattle.g_mean.proofs.lemmas.Copies.{among-left, among-right, among-split}
-use Rattle.g_mean.proofs.lemmas.Edits.{distinct-split}
-use Rattle.g_mean.proofs.lemmas.Holds.{distinct-apart}
-use Rattle.g_mean.proofs.lemmas.Inside.{inputs-read, regions-closed}
-use Rattle.g_mean.proofs.lemmas.Splices.{joined-known, joined-read, known-among, all-among}
+use Rattle.r_copy.specs.g_mean.Copies.{IsAmong, IsRead, AreRead, NodesRead, known_after, is_argument, IsClosed, AllClosed}
+use Rattle.r_copy.specs.g_mean.Edits.{IsPartOf}
+use Rattle.r_copy.proofs.of_g_mean.lemmas.Copies.{among-left, among-right, among-split}
+use Rattle.r_copy.proofs.of_g_mean.lemmas.Edits.{distinct-split}
+use Rattle.r_copy.proofs.of_g_mean.lemmas.Holds.{distinct-apart}
+use Rattle.r_copy.proofs.of_g_mean.lemmas.Inside.{inputs-read, regions-closed}
+use Rattle.r_copy.proofs.of_g_mean.lemmas.Splices.{joined-known, joined-read, known-among, all-among}
 use Rattle.r_edit.proofs.lemmas.Numbers.{below}
-use Rattle.r_sweep_def.specs.Swept.{Logged, Change, tried_by, swept_by}
+use Rattle.r_walk_def.specs.r_sweep_def.Swept.{Logged, Change, tried_by, swept_by}
 use Rattle.r_walk_def.specs.Context.{joined_regions, IsContext}
 use Rattle.r_walk_def.specs.Laws.{IsOutputAmong, AreOutputsAmong, region_at, Becomes, Opens, IsSaid, IsLocal, WalksAreSweeps}
 use Rattle.r_walk_def.specs.Walk.{Part, stays, becomes, opened, Asked, output_now, origin_now, inputs_of_nodes, Walking, Cursor, WrittenNodes, WrittenRegion, WrittenRegions, stepped, results_from, unmoved, both_written, is_in, results_used, cursor_after, cursor_in, with_outputs, node_now, part_written, walk_region, walk_regions, walk_nodes, walk_node, open_at, open_region, walked}

@@ -10,7 +10,7 @@ use Rattle.rv_layout.specs.Layout.{item_lists}
 use Rattle.cc_emit_def.specs.Image.{lambdas_of}
 use Rattle.cc_emit_def.specs.Laws.{IsFunction}
 use Rattle.cc_emit_def.proofs.lemmas.Lambdas.{is_function}
-use Rattle.cc_emit.specs.Items.{image_of_items, CanEmitItems}
+use Rattle.cc_compile.specs.cc_emit.Items.{image_of_items, CanEmitItems}
 use Rattle.cc_session.specs.Items.{items_of, AreItemsKept}
 use Rattle.cc_session.specs.Rebuilds.{AreRemade}
 use Rattle.cc_session.proofs.FromParts.{small, rebuilt}

@@ -6,7 +6,7 @@ use Rattle.g_graph.specs.Lists.{IsComplete}
 use Rattle.g_graph.specs.Plain.{PlainLambda, PlainOmega}
 use Rattle.g_pass_def.specs.Answers.{AreAnswers}
 use Rattle.cc_compile.specs.g_pass.Sweep.{rules}
-use Rattle.cc_emit_def.specs.Image.{lambdas_of, CanEmit}
+use Rattle.cc_compile.specs.cc_emit_def.Image.{lambdas_of, CanEmit}
 use Rattle.cc_view_source.specs.Made.{IsMadeOf}
 use Rattle.cc_view_source.proofs.making.answers_of.Goals as goal
 

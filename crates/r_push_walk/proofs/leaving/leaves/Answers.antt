@@ -3,7 +3,7 @@ use Rattle.std.proofs.Common.{◌≡◌, ◌&&◌, ◌^◌, [], map, Bool, nat_l
 use Rattle.g_graph.specs.Plain.{regions_of, has_none}
 use Rattle.g_graph.specs.Signatures.{is_pure}
 use Rattle.g_graph.specs.WellFormed.{all_of}
-use Rattle.r_edit.specs.Size.{may_change_size}
+use Rattle.r_push_laws.specs.r_edit.Size.{may_change_size}
 use Rattle.r_push_laws.specs.Walk.{is_open, growth_of, goes_along, leaves, node_now}
 use Rattle.r_walk_def.specs.Walk.{origin_now}
 use Rattle.r_push_walk.specs.Walks.{walking}

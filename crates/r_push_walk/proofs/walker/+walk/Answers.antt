@@ -2,7 +2,7 @@
 use Rattle.std.proofs.Common.{◌≡◌, ◌+◌, ◌∷◌, [], map, drop, drop_of_length-le, refl, ap, ap₂, sym, subst, ◌∙◌}
 use Rattle.std.proofs.lemmas.List.{append-nil, drop_more}
 use Rattle.g_graph.specs.Plain.{region_then, nodes_in, results_of, regions_in, nodes_of, regions_of}
-use Rattle.r_push.specs.Edit.{outer}
+use Rattle.r_push_laws.specs.r_push.Edit.{outer}
 use Rattle.r_push_laws.specs.Walk.{Cursor, at_start, walk_nodes, walk_region, walk_regions}
 use Rattle.r_walk.specs.Around.{AreUses}
 use Rattle.r_walk.specs.Moves.{AreMoves, origin_in}

@@ -1,7 +1,7 @@
 -- The node of the place has the region.
 use Rattle.std.proofs.Common.{List, length, option_map, ap, sym, ◌∙◌}
 use Rattle.std.specs.Prelude.{option_and_then, slice_get}
-use Rattle.g_graph.specs.declared.op.Kind.{Kind}
+use Rattle.g_arena_def.specs.g_graph.declared.op.Kind.{Kind}
 use Rattle.g_arena_slots.specs.Plain.{PlainSlot, args_of, slot_at}
 use Rattle.g_arena_slots.proofs.nodes.Nodes.argument_count.Goals as goal
 
