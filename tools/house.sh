@@ -100,7 +100,7 @@ done
 
 # ---- paths: for its stamps `rt ci` reads a library's files, and for each path that leads from it to another library those of that one
 
-most_read=45000000
+most_read=15000000
 find crates/*/src crates/*/specs crates/*/proofs -type f 2>/dev/null | cut -d / -f 2 | sort | uniq -c >"$folder/files"
 for path in crates/*/src/main.rt; do path=${path#crates/}; echo "program ${path%%/*}"; done >"$folder/programs"
 read_files=$(awk '
