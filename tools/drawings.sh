@@ -1,5 +1,5 @@
 #!/bin/sh
-# Holds the drawings of g_dot against the tables rows/graphs and rows/rules: the edges read back from the DOT text of each lambda are
+# Holds the drawings of g_text against the tables rows/graphs and rows/rules: the edges read back from the DOT text of each lambda are
 # its origins, each once, with the places of both ends; and `dot`, where it is installed, lays out each and warns of nothing.
 set -u
 cd "$(dirname "$0")/.." || exit 1

@@ -40,18 +40,18 @@ if [ "${1:-}" = --try ]; then
         tried=$((tried + 1))
     done <<'EDITS'
 session@README.md@s/before 219/before 218/@README.md:[0-9]*: the session differs at: ./rvcc build examples/squares.c
-map@crates.txt@/^r_cne:/s/$/ r_copy/@docs/ARCHITECTURE.md:[0-9]*: the row of `r_cne` is stale
+map@crates.txt@/^r_cne:/s/$/ r_walk/@docs/ARCHITECTURE.md:[0-9]*: the row of `r_cne` is stale
 map@crates/board_core/src/lib.rt@s,^//! Always: ,//! ,@docs/ARCHITECTURE.md:[0-9]*: the row of `board_core` is stale
 house@docs/NAMES.md@/^| `rv_`, /d@crates.txt:[0-9]*: rv_isa has no prefix of docs/NAMES.md
-house@docs/NAMES.md@s/ stale,//@crates.txt:[0-9]*: g_pass_stale has an ending that docs/NAMES.md does not list
+house@docs/NAMES.md@s/ lock,//@crates.txt:[0-9]*: board_lock has an ending that docs/NAMES.md does not list
 house@crates.txt@/^r_cne:/s/$/ board_core/@crates.txt:[0-9]*: r_cne stands on board_core, which its row of docs/NAMES.md does not name
-house@crates/g_graph_laws/src/laws.rt@s/fn formed_is_well_formed()/fn formed_is_well_formed(n: u32)/@g_graph_laws has a function that takes an argument
-house@crates/limits/src/lib.rt@1s/[.]$/, with the names by which the crates above know it, and with what it is that each of them counts./@crates/limits/src/lib.rt:1: the first sentence is longer than 110 characters
+house@crates/g_build_keeps/src/formation_laws.rt@s/fn formed_is_well_formed()/fn formed_is_well_formed(n: u32)/@g_build_keeps has a function that takes an argument
+house@crates/base/src/lib.rt@1s/[.]$/, with the names by which the crates above know it, and with what it is that each of them counts./@crates/base/src/lib.rt:1: the first sentence is longer than 110 characters
 house@tools/house.sh@s/^most_bare=.*/most_bare=1/@files of proofs begin with no comment
-house@docs/CONTRIBUTING.md@s,^| `c_check_statement` | `src/loops.rt`,| `c_check_statement` | `src/forms.rt`,@docs/CONTRIBUTING.md:[0-9]*: there is no src/forms.rt
+house@docs/CONTRIBUTING.md@s,^| `c_check_statement` | `src/loops.rt`,| `c_check_statement` | `src/functions.rt`,@docs/CONTRIBUTING.md:[0-9]*: there is no src/functions.rt
 house@docs/GLOSSARY.md@s/`Exi\(ted\)`/`Exo\1`/@docs/GLOSSARY.md:[0-9]*: no file of the crates has Exo
-house@docs/ARCHITECTURE.md@s/images_keep_meaning| cc_source_keeps/globals_are_shown| cc_source_keeps/@docs/ARCHITECTURE.md:[0-9]*: cc_emit_keeps has no law globals_are_shown
-house@docs/ARCHITECTURE.md@s/globals_are_shown| cc_emit_keeps/globals_are_shown| cc_compile_keeps/@docs/ARCHITECTURE.md:[0-9]*: cc_compile_keeps does not cite globals_are_shown
+house@docs/ARCHITECTURE.md@s/images_keep_meaning| cc_source/a_lost_law| cc_source/@docs/ARCHITECTURE.md:[0-9]*: cc_emit has no law a_lost_law
+house@docs/ARCHITECTURE.md@s/globals_are_shown| cc_emit/globals_are_shown| cc_top/@docs/ARCHITECTURE.md:[0-9]*: cc_top does not cite globals_are_shown
 read@docs/THEOREM.md@/\*\*`meaning`/s/\*\*[0-9,]*\*\*/**1,555**/@docs/THEOREM.md:[0-9]*: the table is stale
 EDITS
     echo "$script: $tried edits are refused"
@@ -100,7 +100,7 @@ done
 
 # ---- paths: for its stamps `rt ci` reads a library's files, and for each path that leads from it to another library those of that one
 
-most_read=15000000
+most_read=6000000
 find crates/*/src crates/*/specs crates/*/proofs -type f 2>/dev/null | cut -d / -f 2 | sort | uniq -c >"$folder/files"
 for path in crates/*/src/main.rt; do path=${path#crates/}; echo "program ${path%%/*}"; done >"$folder/programs"
 read_files=$(awk '
@@ -109,7 +109,7 @@ read_files=$(awk '
     { sum = files[$1] + 6; for (i = 2; i <= NF; i++) sum += read[$i]; read[$1] = sum; if (!($1 in program)) all += sum }
     END { printf "%d", all }
 ' "$folder/files" "$folder/programs" "$folder/crates")
-[ "$read_files" -le $most_read ] || fail "crates.txt: by the paths of libraries a gate reads $read_files files for a round of stamps, more than $most_read: name what is used alone, and let a library pass on what stands below it"
+[ "$read_files" -le $most_read ] || fail "crates.txt: by the paths of libraries a gate reads $read_files files for a round of stamps, more than $most_read: name what is used alone, and let few crates stand between"
 
 # ---- edges: what a crate may stand on, by the rows of the prefixes, and by its ending
 

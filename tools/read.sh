@@ -292,7 +292,7 @@ END {
     flush()
     if (wrong) exit 1
     if (roots_said) { reach("named", asked, ""); print_reached("named"); if (missing != "") stop(substr(missing, 2)); exit 0 }
-    reach("meaning", "KeepsMeaning cc_emit_def.lambdas_of", "")
+    reach("meaning", "KeepsMeaning cc_emit.lambdas_of", "")
     reach("runs", "KeepsMeaning", "frames PlainLambda")
     reach("accepted", "Accepts", "")
     reach("trees", "Accepts", "limit_passed")

@@ -7,3 +7,4 @@ mod Positions
 mod Sets
 mod Steps
 mod Sweeping
+mod ShareExamples

@@ -1,4 +1,9 @@
--- Lemmas that crates above cite.
 pub mod Names
 pub mod Apart
 pub mod Starting
+pub mod Order
+pub mod SharedApart
+pub mod Named
+pub mod Safe
+pub mod Marked
+pub mod Few

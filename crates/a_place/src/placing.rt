@@ -9,7 +9,7 @@ ghost use Rattle.a_place.specs.Sweep.{spans_of};
 use crate::buckets::Buckets;
 use crate::spans::{Span, name_count, spans};
 use crate::sweep::Sweep;
-use no_memory::NoMemory;
+use base::NoMemory;
 use s_linear::{Linear, Places};
 use std::alloc::{AllocError, Global};
 

@@ -12,7 +12,7 @@ use Rattle.g_graph.specs.Signatures.{output_kinds}
 use Rattle.g_graph.specs.WellFormed.{all_of, every_region, every_in_node, every_in_nodes, every_in_regions, has_its_regions, has_its_width, has_its_object, regions_fit, theta_has_states, node_fits, results_are_last, returns_state, region_has_one_state_each, region_fits, body_fits, numbers_fit, leaves_fit, IsWellFormed}
 use Rattle.s_linear.specs.Linear.{Instr, Code, no_steps}
 use Rattle.s_linear.specs.Lines.{counted}
-use Rattle.s_sequence_keeps.specs.s_sequence.Sequence.{values_in, value_args, Names, no_names, node_names, outputs_at, bases, named, name_of, instrs_then, nodes_code, node_step, branch_codes, branch_code, loop_step, body_code, sequenced}
+use Rattle.s_sequence.specs.Sequence.{values_in, value_args, Names, no_names, node_names, outputs_at, bases, named, name_of, instrs_then, nodes_code, node_step, branch_codes, branch_code, loop_step, body_code, sequenced}
 use Rattle.a_place_keeps.specs.Laws.{StepChooses, CodeChooses, CodesChoose}
 
 instrs_choose : (is : List Instr) (k : Code) → CodeChooses k → CodeChooses (instrs_then is k)

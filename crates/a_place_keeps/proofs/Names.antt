@@ -5,8 +5,8 @@ use Rattle.std.proofs.lemmas.Bool.{cases_Bool, or_cases, or_left, or_right, and_
 use Rattle.s_linear.specs.Linear.{Instr, const, undef, object_address, global_address, binary, unary, load, store, clear, equal_pointers, move, call, put, get, exit, Step, plain, choice, loop, Code, no_steps, step_then, Codes, no_codes, code_then}
 use Rattle.s_linear.specs.Lines.{counted}
 use Rattle.a_place.specs.Places.{among}
-use Rattle.a_share_def.specs.Share.{Names, writes, reads}
-use Rattle.a_share_def.specs.Share as share
+use Rattle.a_place.specs.Share.{Names, writes, reads}
+use Rattle.a_place.specs.Share as share
 use Rattle.s_sequence_keeps.specs.Closed.{target_of, sources_of, NameSet, none_written}
 use Rattle.a_place_keeps.specs.Need.{IsIn, joined, needed_by, needed_by_instrs, after_body, needed_by_step, needed_by_code, needed_by_codes, at_label, at_branch}
 

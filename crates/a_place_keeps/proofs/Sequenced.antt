@@ -2,7 +2,7 @@
 use Rattle.std.proofs.Common.{List, [], ◌∷◌, map}
 use Rattle.g_graph.specs.Plain.{PlainLambda}
 use Rattle.g_mean.specs.Kinds.{AreWellFormed}
-use Rattle.s_sequence_keeps.specs.s_sequence.Sequence.{sequenced}
+use Rattle.s_sequence.specs.Sequence.{sequenced}
 use Rattle.s_sequence_keeps.specs.Laws.{SequencedCodeIsClosed}
 use Rattle.a_place_keeps.specs.Laws.{FunctionsAreClosed, FunctionsAgree, SequencedFunctionsAgree, SharedFunctionsAgree, SequencedSharedAgree, ClosedHaveOwnTurns, SequencedHaveOwnTurns}
 use Rattle.a_place_keeps.proofs.Chooses.{sequenced_chooses}

@@ -4,9 +4,9 @@ use Rattle.std.specs.Prelude.{◌==◌}
 use Rattle.std.proofs.lemmas.Bool.{cases_Bool, and_from, or_left}
 use Rattle.s_linear.specs.Frame.{is_lost}
 use Rattle.s_linear.specs.Linear.{Instr, const, undef, object_address, global_address, binary, unary, load, store, clear, equal_pointers, move, call, put, get, exit, Step, plain, choice, loop, Code, no_steps, step_then, Codes, no_codes, code_then, LinearFunction}
-use Rattle.a_share_def.specs.Share.{Names, writes, meets, moves_from, Site, does, tests, instr_sites, last_of, others_of, as_they_stand, branch_sites, step_sites, code_sites, codes_sites, shared}
-use Rattle.a_share_def.specs.Share as share
-use Rattle.a_share_def.specs.Laws.{IsSafeAt, AreSafe, SharedSitesAreSafe, SharedParamsDiffer}
+use Rattle.a_place.specs.Share.{Names, writes, meets, moves_from, Site, does, tests, instr_sites, last_of, others_of, as_they_stand, branch_sites, step_sites, code_sites, codes_sites, shared}
+use Rattle.a_place.specs.Share as share
+use Rattle.a_place.specs.ShareLaws.{IsSafeAt, AreSafe, SharedSitesAreSafe, SharedParamsDiffer}
 use Rattle.s_sequence_keeps.specs.Closed.{NameSet}
 use Rattle.a_place_keeps.specs.Need.{these, needed_by_instrs, needed_by_code, at_label, at_branch, IsMoveFrom, KeepsPlace, SafeInstr, SafeInstrs, SafeStep, SafeCode, SafeCodes}
 use Rattle.a_place_keeps.specs.Laws.{SharedFunctionsAgree}

@@ -4,9 +4,9 @@ use Rattle.std.specs.Prelude.{◌==◌}
 use Rattle.std.proofs.lemmas.Bool.{or_left, or_right}
 use Rattle.g_graph.specs.WellFormed.{some_of}
 use Rattle.s_linear.specs.Linear.{Instr, Step, plain, choice, loop, Code, no_steps, step_then, Codes, no_codes, code_then}
-use Rattle.a_share_def.specs.Share.{Names, writes}
-use Rattle.a_share_def.specs.Share as share
-use Rattle.a_share_def.specs.Turns.{IsWrittenOr, StepHasOwnTurns, CodeHasOwnTurns, HaveOwnTurns}
+use Rattle.a_place.specs.Share.{Names, writes}
+use Rattle.a_place.specs.Share as share
+use Rattle.a_place.specs.Turns.{IsWrittenOr, StepHasOwnTurns, CodeHasOwnTurns, HaveOwnTurns}
 use Rattle.s_sequence_keeps.specs.Closed.{NameSet, after_instr, after_instrs, none_written, after_step, StepIsClosed, CodeIsClosed, AreClosed}
 use Rattle.a_place_keeps.specs.Need.{these, needed_by_code, at_branch}
 use Rattle.a_place_keeps.specs.Laws.{StepChooses, CodeChooses, CodesChoose, ClosedHaveOwnTurns}

@@ -9,11 +9,11 @@ use Rattle.g_graph.specs.Plain.{PlainLambda}
 use Rattle.g_graph.specs.WellFormed.{IsWellFormed}
 use Rattle.g_mean.specs.Kinds.{AreWellFormed}
 use Rattle.g_mean.specs.Copies.{Same}
-use Rattle.s_sequence_keeps.specs.s_sequence.Sequence.{sequenced}
+use Rattle.s_sequence.specs.Sequence.{sequenced}
 use Rattle.a_place.specs.Places.{last}
 use Rattle.a_place.specs.Placed.{PlacedFunction, placed_code, placed_at, placed, placed_calls}
-use Rattle.a_share_def.specs.Share.{shared}
-use Rattle.a_share_def.specs.Turns.{HasOwnTurns}
+use Rattle.a_place.specs.Share.{shared}
+use Rattle.a_place.specs.Turns.{HasOwnTurns}
 use Rattle.s_sequence_keeps.specs.Closed.{NameSet, after_code, CodeIsClosed, FunctionIsClosed}
 use Rattle.a_place_keeps.specs.Need.{IsIn, these, needed_by_code, SafeCode}
 use Rattle.a_place_keeps.specs.Spans.{StandAt, IsBegunAt, ArePlacesApart, SpansCode}

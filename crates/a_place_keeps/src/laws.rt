@@ -42,8 +42,8 @@ pub fn sequenced_functions_agree()
 pub fn shared_functions_agree()
     ensures { SharedFunctionsAgree }
 {
-    a_share_def::laws::shared_sites_are_safe();
-    a_share_def::laws::shared_params_differ();
+    a_place::share_laws::shared_sites_are_safe();
+    a_place::share_laws::shared_params_differ();
 }
 
 /// Of the linear code of each list of well-formed lambdas, calls over names and calls over shared

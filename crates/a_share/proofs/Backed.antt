@@ -12,8 +12,8 @@ use Rattle.std.proofs.lemmas.List.Sorted.{sum_by-IsPermutation}
 use Rattle.s_linear.specs.Linear.{Instr, move, LinearFunction}
 use Rattle.s_linear.specs.Lines.{Line, leave, done, names_below, line_names, code_lines, lines}
 use Rattle.a_place.specs.Places.{among, above, name_count}
-use Rattle.a_share_def.specs.Share.{writes}
-use Rattle.a_share_def.specs.Marks.{Mark}
+use Rattle.a_place.specs.Share.{writes}
+use Rattle.a_place.specs.Marks.{Mark}
 use Rattle.a_share.specs.Bounds.{differ, odd_of, bounds_of, need_at, AreBelow}
 use Rattle.a_share.specs.Pairs.{segment_of, pairs, IsMadeOf}
 use Rattle.a_share.specs.Sound.{IsWithin, segments_in}

@@ -5,9 +5,9 @@ use Rattle.std.proofs.lemmas.List.{append-nil}
 use Rattle.s_linear.specs.Linear.{Code}
 use Rattle.s_linear.specs.Lines.{Line, jump, label, code_labels, code_lines}
 use Rattle.a_place.specs.Places.{among}
-use Rattle.a_share_def.specs.Share.{Names, needed_by_code}
-use Rattle.a_share_def.specs.Marks.{Mark, mark, code_marks}
-use Rattle.a_share_def.specs.Turns.{CodeHasOwnTurns}
+use Rattle.a_place.specs.Share.{Names, needed_by_code}
+use Rattle.a_place.specs.Marks.{Mark, mark, code_marks}
+use Rattle.a_place.specs.Turns.{CodeHasOwnTurns}
 use Rattle.a_share.specs.Bounds.{differ, needed_now, is_odd_in, is_as, AreBelow, AreToggled}
 use Rattle.a_share.specs.Changes.{HasChanged, ChangesAt}
 use Rattle.a_share.specs.Walk.{predicates_of}

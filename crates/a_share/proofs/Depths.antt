@@ -7,11 +7,11 @@ use Rattle.val_core.specs.Numbers.{numbers_from}
 use Rattle.s_linear.specs.Linear.{Instr}
 use Rattle.s_linear.specs.Lines.{Line, enter, leave, done, branch_not_zero, branch_zero, branch_equal, jump, label, line_names}
 use Rattle.a_place.specs.Places.{among, occurs, above}
-use Rattle.a_share_def.specs.Share.{Site, does, tests, greatest, depth_of_site, stands_at, depth_of, down_from, in_order}
-use Rattle.a_share_def.specs.Marks.{Mark, sites_at}
+use Rattle.a_place.specs.Share.{Site, does, tests, greatest, depth_of_site, stands_at, depth_of, down_from, in_order}
+use Rattle.a_place.specs.Marks.{Mark, sites_at}
 use Rattle.a_share.specs.Walk.{AreDepthsOf}
 use Rattle.a_share.specs.Tables.{deeper, depth_in, has_depth, at_depth, levels, down, by_depth}
-use Rattle.a_share_def.proofs.lemmas.Marked.{AreFlat}
+use Rattle.a_place.proofs.lemmas.Marked.{AreFlat}
 use Rattle.a_share.proofs.Occurs.{stands_in}
 
 -- ---- the depth of a name

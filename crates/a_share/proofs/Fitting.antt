@@ -8,8 +8,8 @@ use Rattle.g_graph.specs.WellFormed.{some_of}
 use Rattle.val_core.specs.Numbers.{numbers_from}
 use Rattle.s_linear.specs.Lines.{Line}
 use Rattle.a_place.specs.Places.{among, Given}
-use Rattle.a_share_def.specs.Share.{Site, clash_at, clash, is_long, is_lost, held, fits, places_of, partners, candidates, first_of, next_place, place_for, given}
-use Rattle.a_share_def.specs.Marks.{Mark, sites_at}
+use Rattle.a_place.specs.Share.{Site, clash_at, clash, is_long, is_lost, held, fits, places_of, partners, candidates, first_of, next_place, place_for, given}
+use Rattle.a_place.specs.Marks.{Mark, sites_at}
 use Rattle.a_share.specs.Walk.{count_if, has}
 use Rattle.a_share.specs.Walked.{IsWalkOf}
 use Rattle.a_share.specs.Held.{total}
@@ -17,7 +17,7 @@ use Rattle.a_share.specs.Tables.{does_write, positions}
 use Rattle.a_share.specs.Facts.{segments_of, writes_of, copied_of, line_number, name_number, AreUsable, AreFacts}
 use Rattle.a_share.specs.Giving.{is_place, as_list, shared_places, place_given, names_at, met, fits_given, candidates_given, chosen, given_by}
 use Rattle.a_share.specs.declared.facts.Facts.{Facts}
-use Rattle.a_share_def.proofs.lemmas.Apart.{some_swaps}
+use Rattle.a_place.proofs.lemmas.SharedApart.{some_swaps}
 use Rattle.a_share.proofs.Totals.{bit, over, total_add, total_same, total_swap, count_total, count_swap, more_is_other, none_more}
 use Rattle.a_share.proofs.Meeting.{copy_at, clash_line, meet_total, copies_total, no_clash, met_is}
 use Rattle.a_share.proofs.Long.{long_same}

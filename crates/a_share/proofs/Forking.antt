@@ -4,8 +4,8 @@ use Rattle.std.specs.Prelude.{◌==◌}
 use Rattle.s_linear.specs.Linear.{Instr, choice, Codes}
 use Rattle.s_linear.specs.Lines.{Line, done, jump, label, enter, leave, branch_not_zero, branch_zero, branch_equal, line_names, step_lines, code_lines}
 use Rattle.a_place.specs.Places.{among}
-use Rattle.a_share_def.specs.Share.{Names, needed_by_code, needed_by_step}
-use Rattle.a_share_def.specs.Marks.{step_marks, code_marks}
+use Rattle.a_place.specs.Share.{Names, needed_by_code, needed_by_step}
+use Rattle.a_place.specs.Marks.{step_marks, code_marks}
 use Rattle.a_share.specs.Bounds.{needed_now, is_as, AreBelow, AreToggled}
 use Rattle.a_share.specs.Changes.{ChangesAt}
 use Rattle.a_share.specs.Rows.{StandAt, Row, no_row, row_code, row_lines, row_marks, row_needed, end_label}

@@ -5,9 +5,9 @@ use Rattle.std.proofs.lemmas.List.{append-nil}
 use Rattle.std.proofs.lemmas.Bool.Decides.{nat_tests}
 use Rattle.s_linear.specs.Linear.{choice, Code, Codes, no_codes, code_then}
 use Rattle.s_linear.specs.Lines.{Line, branch_not_zero, jump, label, LinesOf, counted, code_labels, last_labels, last_from, others_from, branches, last_lines, labelled, before_last, choice_lines, step_lines, code_lines, codes_lines}
-use Rattle.a_share_def.specs.Share.{Names, needed_by_code, needed_by_codes, needed_by_step, last_of}
-use Rattle.a_share_def.specs.Marks.{Mark, mark, branch_marks, labelled_marks, choice_marks, step_marks, code_marks, codes_marks}
-use Rattle.a_share_def.specs.Turns.{CodeHasOwnTurns, HaveOwnTurns}
+use Rattle.a_place.specs.Share.{Names, needed_by_code, needed_by_codes, needed_by_step, last_of}
+use Rattle.a_place.specs.Marks.{Mark, mark, branch_marks, labelled_marks, choice_marks, step_marks, code_marks, codes_marks}
+use Rattle.a_place.specs.Turns.{CodeHasOwnTurns, HaveOwnTurns}
 use Rattle.a_share.specs.Rows.{CodeIsUnjumped, CodesAreUnjumped, end_label}
 use Rattle.a_share.specs.Walk.{predicates_of}
 

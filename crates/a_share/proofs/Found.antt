@@ -5,8 +5,8 @@ use Rattle.std.proofs.lemmas.Bool.{cases_Bool, or_cases, or_left, or_right}
 use Rattle.std.proofs.lemmas.Option.{slice_get_within, get_or_from_slice_get}
 use Rattle.g_graph.specs.WellFormed.{some_of}
 use Rattle.s_linear.specs.Lines.{Line}
-use Rattle.a_share_def.specs.Share.{Site}
-use Rattle.a_share_def.specs.Marks.{Mark, site_of, sites_at}
+use Rattle.a_place.specs.Share.{Site}
+use Rattle.a_place.specs.Marks.{Mark, site_of, sites_at}
 use Rattle.a_share.specs.Walk.{count_if}
 
 pub same_truth : (a b : Bool) → (a ≡ true → b ≡ true) → (b ≡ true → a ≡ true) → a ≡ b

@@ -3,8 +3,8 @@ use Rattle.std.proofs.Common.{◌≡◌, ◌≢◌, ◌<◌, ◌≤◌, ℕ, suc
 use Rattle.std.specs.Prelude.{◌==◌}
 use Rattle.s_linear.specs.Linear.{Instr, move, choice, Code, Codes}
 use Rattle.s_linear.specs.Lines.{Line, done, instr_names, step_lines}
-use Rattle.a_share_def.specs.Share.{Names, needed_by, needed_by_step, at_label}
-use Rattle.a_share_def.specs.Marks.{mark, step_marks}
+use Rattle.a_place.specs.Share.{Names, needed_by, needed_by_step, at_label}
+use Rattle.a_place.specs.Marks.{mark, step_marks}
 use Rattle.a_share.specs.Bounds.{needed_now, AreBelow}
 use Rattle.a_share.specs.Changes.{IsPassed}
 use Rattle.a_share.specs.Rows.{Row, row_lines, row_marks, row_needed, turn_lines, turn_marks, end_label}

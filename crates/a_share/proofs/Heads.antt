@@ -4,8 +4,8 @@ use Rattle.std.specs.Prelude.{◌==◌}
 use Rattle.std.proofs.lemmas.Bool.{cases_Bool}
 use Rattle.s_linear.specs.Linear.{Instr, choice, Code, Codes}
 use Rattle.s_linear.specs.Lines.{Line, enter, leave, done, branch_not_zero, branch_zero, branch_equal, jump, label, code_lines, step_lines}
-use Rattle.a_share_def.specs.Share.{Names, needed_by, needed_by_step, at_label}
-use Rattle.a_share_def.specs.Marks.{Mark, mark, step_marks}
+use Rattle.a_place.specs.Share.{Names, needed_by, needed_by_step, at_label}
+use Rattle.a_place.specs.Marks.{Mark, mark, step_marks}
 use Rattle.a_share.specs.Rows.{StandAt, Row, no_row, then_instr, then_label, then_loop, then_choice, then_same, row_lines, row_marks, row_needed, RowFits, turn_lines, turn_marks, end_label}
 use Rattle.a_share.specs.Walking.{IsAt, IsHeldAt, KeepsFrom, IsWalked, HasRoom, Stops, at_line, at_its_label, at_a_label, LoopStands, ChoiceStands, is_stop, jump_of, line_before, before_of}
 use Rattle.a_share.specs.declared.walk.Before.{Before}

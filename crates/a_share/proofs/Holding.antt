@@ -3,7 +3,7 @@ use Rattle.std.proofs.Common.{◌≡◌, ◌<◌, ◌≤◌, ℕ, suc, ◌+◌, 
 use Rattle.std.specs.Prelude.{◌==◌, IsTrue}
 use Rattle.std.proofs.lemmas.List.{append_assoc}
 use Rattle.s_linear.specs.Lines.{Line}
-use Rattle.a_share_def.specs.Marks.{Mark}
+use Rattle.a_place.specs.Marks.{Mark}
 use Rattle.a_share.specs.Bounds.{differ, need_at, needed_now, has_bound, is_odd_in, AreBelow}
 use Rattle.a_share.specs.Walking.{IsHeldAt, AreHeld, Keeps, HasRoom}
 use Rattle.a_share.specs.declared.needs.Needs.{Needs}

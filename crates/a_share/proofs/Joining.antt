@@ -6,7 +6,7 @@ use Rattle.std.proofs.lemmas.Bool.Decides.{nat_tests}
 use Rattle.std.proofs.lemmas.List.{append-nil}
 use Rattle.s_linear.specs.Linear.{Instr}
 use Rattle.a_place.specs.Places.{among}
-use Rattle.a_share_def.specs.Share.{Names}
+use Rattle.a_place.specs.Share.{Names}
 use Rattle.a_share.specs.Bounds.{Bounds, differ, need_at, needed_now, is_odd_in, is_as, AreBelow, AreToggled}
 use Rattle.a_share.specs.Changes.{HasChanged, ChangesAt, ArePassed, IsEntered}
 use Rattle.a_share.specs.Unions.{IsUnion}

@@ -7,8 +7,8 @@ use Rattle.std.proofs.lemmas.Option.{slice_get_within, get_or_from_slice_get, sl
 use Rattle.g_graph.specs.WellFormed.{some_of}
 use Rattle.s_linear.specs.Linear.{Instr}
 use Rattle.s_linear.specs.Lines.{Line, enter, leave, done, branch_not_zero, branch_zero, branch_equal, jump, label}
-use Rattle.a_share_def.specs.Share.{writes, is_call, is_long_at, is_long}
-use Rattle.a_share_def.specs.Marks.{Mark, site_of, sites_at}
+use Rattle.a_place.specs.Share.{writes, is_call, is_long_at, is_long}
+use Rattle.a_place.specs.Marks.{Mark, site_of, sites_at}
 use Rattle.a_share.specs.Walk.{count_if, has, AreNeedOf}
 use Rattle.a_share.specs.Sound.{IsWithin}
 use Rattle.a_share.specs.Tables.{does_write, does_call, line_at, calls_before, start_of, has_call_in, is_long_in}

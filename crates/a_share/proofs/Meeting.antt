@@ -6,8 +6,8 @@ use Rattle.std.proofs.lemmas.Bool.Decides.{nat_tests}
 use Rattle.g_graph.specs.WellFormed.{some_of}
 use Rattle.s_linear.specs.Linear.{const, undef, object_address, global_address, binary, unary, load, store, clear, equal_pointers, move, call, put, get, exit}
 use Rattle.s_linear.specs.Lines.{Line, enter, leave, done, branch_not_zero, branch_zero, branch_equal, jump, label}
-use Rattle.a_share_def.specs.Share.{Names, Site, writes, meets, clash_at}
-use Rattle.a_share_def.specs.Marks.{Mark, site_of, sites_at}
+use Rattle.a_place.specs.Share.{Names, Site, writes, meets, clash_at}
+use Rattle.a_place.specs.Marks.{Mark, site_of, sites_at}
 use Rattle.a_share.specs.Walk.{count_if, has, AreNeedOf, AreCopiesOf}
 use Rattle.a_share.specs.Held.{total}
 use Rattle.a_share.specs.Tables.{does_write, positions, ends_of, copied_in}

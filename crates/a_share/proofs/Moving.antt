@@ -7,8 +7,8 @@ use Rattle.std.proofs.lemmas.Bool.Decides.{nat_tests}
 use Rattle.g_graph.specs.WellFormed.{all_of}
 use Rattle.s_linear.specs.Linear.{Instr, move}
 use Rattle.s_linear.specs.Lines.{Line, done, names_below, line_names, instr_names}
-use Rattle.a_share_def.specs.Share.{Names, writes, needed_by_instrs}
-use Rattle.a_share_def.specs.Marks.{instr_marks}
+use Rattle.a_place.specs.Share.{Names, writes, needed_by_instrs}
+use Rattle.a_place.specs.Marks.{instr_marks}
 use Rattle.a_share.specs.Bounds.{differ, need_at, needed_now, is_odd_in, AreBelow, AreToggled}
 use Rattle.a_share.specs.Changes.{HasChanged, ChangesAt, IsPassed, ArePassed}
 use Rattle.a_share.specs.Rows.{StandAt}

@@ -4,8 +4,8 @@ use Rattle.std.specs.Prelude.{◌==◌, nat_le, IsTrue}
 use Rattle.g_graph.specs.WellFormed.{some_of}
 use Rattle.s_linear.specs.Linear.{Instr, Step, plain, choice, loop, Code, no_steps, step_then, Codes, no_codes, code_then}
 use Rattle.s_linear.specs.Lines.{counted}
-use Rattle.a_share_def.specs.Share.{Names, writes, reads, needed_by_instrs, needed_by_step, needed_by_code, needed_by_codes, after_body, at_label, at_branch}
-use Rattle.a_share_def.specs.Turns.{IsWrittenOr}
+use Rattle.a_place.specs.Share.{Names, writes, reads, needed_by_instrs, needed_by_step, needed_by_code, needed_by_codes, after_body, at_label, at_branch}
+use Rattle.a_place.specs.Turns.{IsWrittenOr}
 
 abbrev pub AreSame : Names → Names → Type 0
 AreSame N M = (x : ℕ) → N x ≡ M x

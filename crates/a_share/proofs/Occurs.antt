@@ -8,8 +8,8 @@ use Rattle.val_core.specs.Numbers.{numbers_from}
 use Rattle.s_linear.specs.Linear.{Instr, Step, plain, choice, loop, Code, no_steps, step_then, Codes, no_codes, code_then, LinearFunction}
 use Rattle.s_linear.specs.Lines.{Line, enter, leave, done, branch_not_zero, branch_zero, jump, label, counted, code_labels, step_labels, last_from, others_from, LinesOf, branches, last_lines, labelled, before_last, choice_lines, step_lines, code_lines, codes_lines, lines, line_names, instr_names}
 use Rattle.a_place.specs.Places.{among, above, occurs, name_count}
-use Rattle.a_share_def.specs.Share.{predicate_names, step_names, code_names, codes_names, all_names}
-use Rattle.a_share_def.proofs.lemmas.Order.{below_above}
+use Rattle.a_place.specs.Share.{predicate_names, step_names, code_names, codes_names, all_names}
+use Rattle.a_place.proofs.lemmas.Order.{below_above}
 
 abbrev pub stands_in : (name : ℕ) → List Line → Bool
 stands_in x ls = some_of (occurs x) ls

@@ -6,8 +6,8 @@ use Rattle.std.proofs.lemmas.Bool.Decides.{nat_tests}
 use Rattle.std.proofs.lemmas.Option.{get_or_from_slice_get}
 use Rattle.s_linear.specs.Linear.{const, undef, object_address, global_address, binary, unary, load, store, clear, equal_pointers, move, call, put, get, exit}
 use Rattle.s_linear.specs.Lines.{Line, enter, leave, done, branch_not_zero, branch_zero, branch_equal, jump, label, line_names}
-use Rattle.a_share_def.specs.Share.{Site, does, tests, greatest, depth_of_site, partners_at, partners}
-use Rattle.a_share_def.specs.Marks.{Mark, site_of, sites_at}
+use Rattle.a_place.specs.Share.{Site, does, tests, greatest, depth_of_site, partners_at, partners}
+use Rattle.a_place.specs.Marks.{Mark, site_of, sites_at}
 use Rattle.a_share.specs.Walk.{AreDepthsOf}
 use Rattle.a_share.specs.Tables.{at_depth, levels, down, ends_of, move_depth, move_depths, line_at, partners_in}
 use Rattle.a_share.proofs.Depths.{flat_bounds, flat_same, down_is, past_levels}

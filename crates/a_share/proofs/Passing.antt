@@ -4,8 +4,8 @@ use Rattle.std.specs.Prelude.{◌==◌, nat_le, IsTrue}
 use Rattle.std.proofs.lemmas.Bool.Decides.{nat_tests}
 use Rattle.s_linear.specs.Linear.{Instr, move}
 use Rattle.s_linear.specs.Lines.{Line, done}
-use Rattle.a_share_def.specs.Share.{Names, writes, reads, needed_by}
-use Rattle.a_share_def.specs.Marks.{mark}
+use Rattle.a_place.specs.Share.{Names, writes, reads, needed_by}
+use Rattle.a_place.specs.Marks.{mark}
 use Rattle.a_share.specs.Bounds.{differ, need_at, needed_now, is_odd_in, AreToggled}
 use Rattle.a_share.specs.Changes.{HasChanged, IsPassed}
 use Rattle.a_share.specs.Walking.{IsAt, Keeps, IsWalked}

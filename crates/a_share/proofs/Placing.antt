@@ -10,7 +10,7 @@ use Rattle.g_graph.specs.WellFormed.{some_of, all_of}
 use Rattle.val_core.specs.Numbers.{numbers_from}
 use Rattle.val_core.proofs.lemmas.Numbers.{length_numbers}
 use Rattle.a_place.specs.Places.{Given, place_in}
-use Rattle.a_share_def.specs.Share.{is_lost, first_of, next_place, count_of, counted_for}
+use Rattle.a_place.specs.Share.{is_lost, first_of, next_place, count_of, counted_for}
 use Rattle.a_share.specs.Walk.{count_if, has}
 use Rattle.a_share.specs.Sums.{is_in}
 use Rattle.a_share.specs.Counts.{between}
@@ -22,7 +22,7 @@ use Rattle.a_share.specs.declared.facts.Facts.{Facts}
 use Rattle.a_share.specs.declared.held.Held.{Held}
 use Rattle.a_share.specs.declared.giving.Giving.{Giving}
 use Rattle.a_share.specs.declared.walk.Segment.{Segment}
-use Rattle.a_share_def.proofs.lemmas.Order.{get_numbers}
+use Rattle.a_place.proofs.lemmas.Order.{get_numbers}
 use Rattle.a_share.proofs.Totals.{total_add, total_same, count_same}
 
 -- ---- what holds of all

@@ -2,8 +2,8 @@
 use Rattle.std.proofs.Common.{◌≡◌, ◌≤◌, ℕ, ◌+◌, Bool, true, false, List, [], ◌++◌, length, Option, refl, sym, arith}
 use Rattle.std.proofs.lemmas.List.{append-nil}
 use Rattle.s_linear.specs.Lines.{Line}
-use Rattle.a_share_def.specs.Share.{Names}
-use Rattle.a_share_def.specs.Marks.{Mark}
+use Rattle.a_place.specs.Share.{Names}
+use Rattle.a_place.specs.Marks.{Mark}
 use Rattle.a_share.specs.Rows.{StandAt, Row, row_lines, row_marks, row_needed}
 use Rattle.a_share.specs.Bounds.{differ}
 use Rattle.a_share.specs.Walking.{IsAt, Keeps, KeepsFrom, IsWalked, RowStands}

@@ -3,9 +3,9 @@ use Rattle.std.proofs.Common.{◌≡◌, ◌≢◌, ◌<◌, ◌≤◌, ℕ, suc
 use Rattle.std.proofs.lemmas.List.{append-nil}
 use Rattle.s_linear.specs.Linear.{Instr, Step, plain, choice, loop, Code, no_steps, step_then, no_codes, code_then}
 use Rattle.s_linear.specs.Lines.{Line, done, jump, label, branch_zero, step_labels, code_labels, step_lines, code_lines}
-use Rattle.a_share_def.specs.Share.{Names, needed_by, needed_by_instrs, needed_by_step, needed_by_code, at_label, at_branch}
-use Rattle.a_share_def.specs.Marks.{mark, instr_marks, step_marks, code_marks}
-use Rattle.a_share_def.specs.Turns.{StepHasOwnTurns, CodeHasOwnTurns}
+use Rattle.a_place.specs.Share.{Names, needed_by, needed_by_instrs, needed_by_step, needed_by_code, at_label, at_branch}
+use Rattle.a_place.specs.Marks.{mark, instr_marks, step_marks, code_marks}
+use Rattle.a_place.specs.Turns.{StepHasOwnTurns, CodeHasOwnTurns}
 use Rattle.a_share.specs.Rows.{Row, then_instr, then_same, row_instrs, row_step, row_code, row_lines, row_marks, row_needed, turn_lines, turn_marks, StepIsUnjumped, CodeIsUnjumped, RowFits, end_label}
 
 lines_instrs : (is : List Instr) (r : Row) → row_lines (row_instrs is r) ≡ row_lines r ++ map done is

@@ -8,7 +8,7 @@ use mathlib.Core.Bool.{beq}
 use Rattle.s_linear.specs.Linear.{Instr}
 use Rattle.s_linear.specs.Lines.{instr_names}
 use Rattle.a_place.specs.Places.{among}
-use Rattle.a_share_def.specs.Share.{targets, writes, reads}
+use Rattle.a_place.specs.Share.{targets, writes, reads}
 use Rattle.a_share.specs.Bounds.{needed_now, has_bound, AreBelow}
 use Rattle.a_share.specs.Changes.{ChangesAt, IsPassed}
 use Rattle.a_share.specs.declared.needs.Needs.{Needs}

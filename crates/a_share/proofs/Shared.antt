@@ -6,14 +6,14 @@ use Rattle.s_linear.specs.Frame.{PlainPlaces}
 use Rattle.s_linear.specs.Linear.{LinearFunction}
 use Rattle.s_linear.specs.Lines.{lines}
 use Rattle.a_place.specs.Places.{among, above, Given, place_in, name_count}
-use Rattle.a_share_def.specs.Share.{Site, sites, all_names, depth_of, in_order, given, all_given, count_of, shared}
-use Rattle.a_share_def.specs.Marks.{marks, sites_at}
+use Rattle.a_place.specs.Share.{Site, sites, all_names, depth_of, in_order, given, all_given, count_of, shared}
+use Rattle.a_place.specs.Marks.{marks, sites_at}
 use Rattle.a_share.specs.Walked.{IsWalkOf}
 use Rattle.a_share.specs.Tables.{depth_in, by_depth}
 use Rattle.a_share.specs.Facts.{line_number, name_number, AreUsable, AreFacts}
 use Rattle.a_share.specs.Giving.{given_by}
 use Rattle.a_share.specs.declared.facts.Facts.{Facts}
-use Rattle.a_share_def.proofs.lemmas.Marked.{marked_lines}
+use Rattle.a_place.proofs.lemmas.Marked.{marked_lines}
 use Rattle.a_share.proofs.Occurs.{names_stand, counts_agree}
 use Rattle.a_share.proofs.Depths.{depth_is, order_is}
 use Rattle.a_share.proofs.Distinct.{distinct_order, order_inside}

@@ -4,7 +4,7 @@ use Rattle.std.specs.Prelude.{◌==◌, slice_get}
 use Rattle.std.proofs.lemmas.Bool.{cases_Bool}
 use Rattle.std.proofs.lemmas.Bool.Decides.{nat_tests}
 use Rattle.s_linear.specs.Lines.{Line}
-use Rattle.a_share_def.specs.Marks.{Mark}
+use Rattle.a_place.specs.Marks.{Mark}
 use Rattle.a_share.specs.Walk.{count_if}
 use Rattle.a_share.specs.Held.{total}
 use Rattle.a_share.specs.Tables.{positions}

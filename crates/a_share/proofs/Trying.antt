@@ -3,7 +3,7 @@ use Rattle.std.proofs.Common.{◌≡◌, ◌+◌, ◌-◌, ◌<◌, ℕ, suc, Bo
 use Rattle.std.specs.Prelude.{nat_lt, if◌then◌else◌}
 use Rattle.std.proofs.lemmas.Bool.{cases_lt, lt-ltb, le-ltb}
 use Rattle.val_core.specs.Numbers.{numbers_from}
-use Rattle.a_share_def.specs.Share.{first_of}
+use Rattle.a_place.specs.Share.{first_of}
 use Rattle.a_share.specs.Chosen.{candidate}
 use Rattle.a_share.specs.Giving.{as_list, shared_places}
 

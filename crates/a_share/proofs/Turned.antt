@@ -5,8 +5,8 @@ use Rattle.std.proofs.lemmas.Bool.{cases_Bool}
 use Rattle.g_graph.specs.WellFormed.{all_of}
 use Rattle.s_linear.specs.Linear.{Instr, Code}
 use Rattle.s_linear.specs.Lines.{Line, done, jump, label, branch_zero, names_below, code_labels, code_lines}
-use Rattle.a_share_def.specs.Share.{Names, needed_by_instrs, needed_by_code, at_label, at_branch}
-use Rattle.a_share_def.specs.Marks.{code_marks}
+use Rattle.a_place.specs.Share.{Names, needed_by_instrs, needed_by_code, at_label, at_branch}
+use Rattle.a_place.specs.Marks.{code_marks}
 use Rattle.a_share.specs.Bounds.{need_at, needed_now, AreBelow}
 use Rattle.a_share.specs.Changes.{HasChanged, AreTurnedOver, IsEntered}
 use Rattle.a_share.specs.Rows.{StandAt, Row, no_row, row_code, row_lines, row_marks, row_needed, turn_lines, turn_marks}

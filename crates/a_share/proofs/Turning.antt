@@ -4,9 +4,9 @@ use Rattle.std.specs.Prelude.{nat_le}
 use Rattle.std.proofs.lemmas.Bool.Decides.{nat_tests}
 use Rattle.s_linear.specs.Linear.{Instr, Code}
 use Rattle.s_linear.specs.Lines.{Line, done, jump, label, branch_zero, code_lines}
-use Rattle.a_share_def.specs.Share.{Names, needed_by_code, at_label, at_branch}
-use Rattle.a_share_def.specs.Marks.{mark, instr_marks, code_marks}
-use Rattle.a_share_def.specs.Turns.{IsWrittenOr}
+use Rattle.a_place.specs.Share.{Names, needed_by_code, at_label, at_branch}
+use Rattle.a_place.specs.Marks.{mark, instr_marks, code_marks}
+use Rattle.a_place.specs.Turns.{IsWrittenOr}
 use Rattle.a_share.specs.Bounds.{differ, need_at, needed_now, is_odd_in, AreToggled}
 use Rattle.a_share.specs.Changes.{AreTurnedOver, IsEntered}
 use Rattle.a_share.specs.Rows.{StandAt, turn_lines, turn_marks}

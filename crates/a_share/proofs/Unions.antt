@@ -4,7 +4,7 @@ use Rattle.std.specs.Prelude.{◌==◌, nat_lt}
 use Rattle.std.proofs.lemmas.Bool.{cases_Bool}
 use Rattle.std.proofs.lemmas.Bool.Decides.{nat_tests}
 use Rattle.a_place.specs.Places.{among}
-use Rattle.a_share_def.specs.Share.{Names}
+use Rattle.a_place.specs.Share.{Names}
 use Rattle.a_share.specs.Bounds.{differ, is_odd_in, is_as, AreBelow}
 use Rattle.a_share.specs.Unions.{IsUnion}
 use Rattle.a_share.proofs.Parity.{differ_false}

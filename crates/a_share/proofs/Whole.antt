@@ -6,8 +6,8 @@ use Rattle.std.proofs.lemmas.Bool.{cases_Bool}
 use Rattle.g_graph.specs.WellFormed.{some_of}
 use Rattle.val_core.specs.Numbers.{numbers_from}
 use Rattle.s_linear.specs.Lines.{Line, enter, leave, jump, code_labels, code_lines}
-use Rattle.a_share_def.specs.Share.{Names, needed_by_code}
-use Rattle.a_share_def.specs.Marks.{Mark, mark, code_marks}
+use Rattle.a_place.specs.Share.{Names, needed_by_code}
+use Rattle.a_place.specs.Marks.{Mark, mark, code_marks}
 use Rattle.a_share.specs.Bounds.{differ, odd_of, need_at, needed_now, has_bound, is_odd_in, AreBelow, AreToggled}
 use Rattle.a_share.specs.Changes.{ChangesAt}
 use Rattle.a_share.specs.Rows.{StandAt, Row, no_row, row_code, row_lines, row_marks, row_needed, CodeIsUnjumped}

@@ -3,7 +3,7 @@
 use Rattle.std.specs.Prelude.{◌≡◌, ℕ, ◌==◌, nat_lt, nat_le, Bool, true, false, not, ◌&&◌, List, [], ◌∷◌, length, slice_index_or, IsTrue}
 use Rattle.g_graph.specs.WellFormed.{all_of}
 use Rattle.a_place.specs.Places.{among}
-use Rattle.a_share_def.specs.Share.{Names}
+use Rattle.a_place.specs.Share.{Names}
 
 -- one of the two alone
 abbrev pub differ : Bool → Bool → Bool

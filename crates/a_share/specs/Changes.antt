@@ -1,7 +1,7 @@
 -- How the walk's state changes at a bound.
 use Rattle.std.specs.Prelude.{◌≡◌, ℕ, ◌==◌, ◌||◌, List, ◌++◌, length, IsTrue}
 use Rattle.s_linear.specs.Linear.{Instr}
-use Rattle.a_share_def.specs.Share.{writes, needed_by, needed_by_instrs}
+use Rattle.a_place.specs.Share.{writes, needed_by, needed_by_instrs}
 use Rattle.a_share.specs.Bounds.{Bounds, needed_now, has_bound, AreBelow, AreToggled}
 use Rattle.a_share.specs.declared.needs.Needs.{Needs}
 

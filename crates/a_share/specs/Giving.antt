@@ -4,7 +4,7 @@ use Rattle.std.specs.List.{flat_map}
 use Rattle.g_graph.specs.WellFormed.{some_of}
 use Rattle.val_core.specs.Numbers.{numbers_from}
 use Rattle.a_place.specs.Places.{Given}
-use Rattle.a_share_def.specs.Share.{is_lost, first_of, next_place, count_of}
+use Rattle.a_place.specs.Share.{is_lost, first_of, next_place, count_of}
 use Rattle.a_share.specs.Walk.{count_if, has}
 use Rattle.a_share.specs.Sums.{is_in}
 use Rattle.a_share.specs.Counts.{between}

@@ -2,9 +2,9 @@
 use Rattle.std.specs.Prelude.{◌≡◌, ◌≢◌, ◌≤◌, ℕ, suc, ◌+◌, ◌-◌, Bool, false, ◌||◌, List, [], ◌∷◌, ◌++◌, map, slice_get, Option, Some}
 use Rattle.s_linear.specs.Linear.{Instr, Step, plain, choice, loop, Code, no_steps, step_then, Codes, no_codes, code_then}
 use Rattle.s_linear.specs.Lines.{Line, done, branch_zero, jump, label, counted, step_labels, code_labels, last_from, others_from, code_lines, step_lines}
-use Rattle.a_share_def.specs.Share.{Names, needed_by, needed_by_step, at_label, at_branch}
-use Rattle.a_share_def.specs.Marks.{Mark, mark, instr_marks, code_marks, step_marks}
-use Rattle.a_share_def.specs.Turns.{IsWrittenOr, CodeHasOwnTurns, HaveOwnTurns}
+use Rattle.a_place.specs.Share.{Names, needed_by, needed_by_step, at_label, at_branch}
+use Rattle.a_place.specs.Marks.{Mark, mark, instr_marks, code_marks, step_marks}
+use Rattle.a_place.specs.Turns.{IsWrittenOr, CodeHasOwnTurns, HaveOwnTurns}
 
 -- these lines stand in `lines` from position a up to b
 abbrev pub StandAt : (lines : List Line) → (a : ℕ) → List Line → (b : ℕ) → Type 0

@@ -5,7 +5,7 @@ use Rattle.g_graph.specs.WellFormed.{some_of}
 use Rattle.s_linear.specs.Linear.{move}
 use Rattle.s_linear.specs.Lines.{Line, enter, done, label}
 use Rattle.a_place.specs.Places.{occurs}
-use Rattle.a_share_def.specs.Share.{writes, is_call}
+use Rattle.a_place.specs.Share.{writes, is_call}
 use Rattle.a_share.specs.Walk.{count_if}
 use Rattle.a_share.specs.declared.walk.Segment.{Segment}
 

@@ -1,7 +1,7 @@
 -- What one of some codes needs, by what changes from what is needed after them.
 use Rattle.std.specs.Prelude.{◌≡◌, ◌<◌, ℕ, true, false, List, IsTrue}
 use Rattle.a_place.specs.Places.{among}
-use Rattle.a_share_def.specs.Share.{Names}
+use Rattle.a_place.specs.Share.{Names}
 
 -- From these names N the names S come when some are added and others dropped, all of which are below a count.
 pub record IsUnion (count : ℕ) (more less : List ℕ) (N S : Names) : Type 0 where

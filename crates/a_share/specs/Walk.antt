@@ -2,8 +2,8 @@
 use Rattle.std.specs.Prelude.{◌≡◌, ◌≢◌, ◌==◌, ◌<◌, ◌≤◌, ◌+◌, ℕ, nat_le, Bool, false, not, ◌&&◌, if◌then◌else◌, List, [], ◌∷◌, slice_get, Contains, Option, Some, None}
 use Rattle.s_linear.specs.Linear.{Instr, move}
 use Rattle.s_linear.specs.Lines.{Line, done, branch_not_zero, branch_zero, branch_equal, line_names}
-use Rattle.a_share_def.specs.Share.{writes}
-use Rattle.a_share_def.specs.Marks.{Mark}
+use Rattle.a_place.specs.Share.{writes}
+use Rattle.a_place.specs.Marks.{Mark}
 use Rattle.a_share.specs.declared.walk.Segment.{Segment}
 
 abbrev pub names_in : Option ℕ → List ℕ

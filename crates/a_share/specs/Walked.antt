@@ -2,8 +2,8 @@
 use Rattle.std.specs.Prelude.{◌≡◌, ◌<◌, ℕ, List, vec_len}
 use Rattle.s_linear.specs.Linear.{LinearFunction}
 use Rattle.s_linear.specs.Lines.{Line, lines}
-use Rattle.a_share_def.specs.Marks.{Mark, marks}
-use Rattle.a_share_def.specs.Turns.{HasOwnTurns}
+use Rattle.a_place.specs.Marks.{Mark, marks}
+use Rattle.a_place.specs.Turns.{HasOwnTurns}
 use Rattle.a_share.specs.Walk.{AreNeedOf, AreDepthsOf, AreCopiesOf}
 use Rattle.a_share.specs.Sound.{segments_in}
 use Rattle.a_share.specs.declared.walk.Walk.{Walk}

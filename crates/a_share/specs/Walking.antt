@@ -3,9 +3,9 @@ use Rattle.std.specs.Prelude.{◌≡◌, ◌≢◌, ◌<◌, ◌≤◌, ◌⊎�
 use Rattle.g_graph.specs.WellFormed.{all_of}
 use Rattle.s_linear.specs.Linear.{Instr, move, choice, Code, Codes, LinearFunction}
 use Rattle.s_linear.specs.Lines.{Line, leave, done, jump, label, line_names, names_below, counted, last_from, others_from, step_lines, lines}
-use Rattle.a_share_def.specs.Share.{Names, writes, at_label, at_branch}
-use Rattle.a_share_def.specs.Marks.{Mark, instr_marks, marks}
-use Rattle.a_share_def.specs.Turns.{IsWrittenOr, CodeHasOwnTurns, HaveOwnTurns, HasOwnTurns}
+use Rattle.a_place.specs.Share.{Names, writes, at_label, at_branch}
+use Rattle.a_place.specs.Marks.{Mark, instr_marks, marks}
+use Rattle.a_place.specs.Turns.{IsWrittenOr, CodeHasOwnTurns, HaveOwnTurns, HasOwnTurns}
 use Rattle.a_share.specs.Bounds.{differ, bounds_of, need_at, needed_now, has_bound, is_odd_in, AreBelow}
 use Rattle.a_share.specs.Rows.{StandAt, Row, row_lines, RowFits, turn_lines, CodeIsUnjumped, CodesAreUnjumped}
 use Rattle.a_share.specs.declared.needs.Needs.{Needs}

@@ -1,7 +1,7 @@
 //! Giving places to names, one after the other.
 
 ghost use Rattle.std.specs.Prelude.{◌≡◌, ◌+◌, ◌<◌, ◌&&◌, not, nat_lt, false, IfOk, slice_index_or, vec_len};
-ghost use Rattle.a_share_def.specs.Share.{counted_for, is_lost};
+ghost use Rattle.a_place.specs.Share.{counted_for, is_lost};
 ghost use Rattle.a_share.specs.Chosen.{candidate};
 
 use crate::facts::Facts;
@@ -31,7 +31,7 @@ impl Giving {
     ghost use Rattle.val_core.specs.Numbers.{numbers_from};
     ghost use Rattle.a_place.specs.Places.{Given, place_in};
     ghost use Rattle.a_share.specs.Facts.{AreUsable, line_number, name_number};
-    ghost use Rattle.a_share_def.specs.Share.{count_of, first_of};
+    ghost use Rattle.a_place.specs.Share.{count_of, first_of};
     ghost use Rattle.a_share.specs.Giving.{IsGiving, IsReady, candidates_at, chosen, fits_at, having};
     ghost use Rattle.a_share.specs.declared.facts.Facts.{Facts};
 

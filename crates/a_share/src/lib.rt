@@ -1,5 +1,5 @@
 //! Places by need: the register or word of the frame that each name gets, exactly as the definition says.
-//! Always: names that clash have different places (`a_share_def`). No contract says that it
+//! Always: names that clash have different places (`a_place`). No contract says that it
 //! takes time n log n in lines and names, and some words of memory for each line and place.
 #![tactic(auto)]
 

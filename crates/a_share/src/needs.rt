@@ -26,7 +26,7 @@ impl Needs {
     ghost use Rattle.s_linear.specs.Lines.{done, instr_names};
     ghost use Rattle.s_linear.specs.Views.{instr_of, line_of};
     ghost use Rattle.a_place.specs.Places.{among};
-    ghost use Rattle.a_share_def.specs.Share.{reads, targets};
+    ghost use Rattle.a_place.specs.Share.{reads, targets};
     ghost use Rattle.a_share.specs.Bounds.{AreBelow, AreToggled, has_bound, is_as, needed_now};
     ghost use Rattle.a_share.specs.Changes.{AreTurnedOver, ChangesAt, IsPassed};
 

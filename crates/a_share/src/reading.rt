@@ -4,7 +4,7 @@ ghost use Rattle.std.specs.Prelude.{◌≡◌, ◌++◌, map, take, drop, IfOk, 
 ghost use Rattle.s_linear.specs.Lines.{instr_names, line_names};
 ghost use Rattle.s_linear.specs.Views.{instr_of, line_of};
 ghost use Rattle.a_place.specs.Places.{above, name_count};
-ghost use Rattle.a_share_def.specs.Share.{targets};
+ghost use Rattle.a_place.specs.Share.{targets};
 ghost use Rattle.a_share.specs.Walk.{names_in, predicates_of};
 
 use s_linear::{Instr, Line};

@@ -4,15 +4,15 @@ ghost use Rattle.std.specs.Prelude.{◌≡◌, IfOk, IsTrue};
 ghost use Rattle.g_graph.specs.WellFormed.{all_of};
 ghost use Rattle.s_linear.specs.Linear.{LinearFunction};
 ghost use Rattle.s_linear.specs.Lines.{lines, names_below};
-ghost use Rattle.a_share_def.specs.Share.{shared};
-ghost use Rattle.a_share_def.specs.Turns.{HasOwnTurns};
+ghost use Rattle.a_place.specs.Share.{shared};
+ghost use Rattle.a_place.specs.Turns.{HasOwnTurns};
 
 use crate::facts::{Facts, name_depths};
 use crate::giving::Giving;
 use crate::ordering::by_depth;
 use crate::reading::name_count;
 use crate::walk::walk_back;
-use no_memory::NoMemory;
+use base::NoMemory;
 use s_linear::{Linear, Places};
 use std::alloc::Global;
 

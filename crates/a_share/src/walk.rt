@@ -1,8 +1,6 @@
 //! The walk back over the lines: after which positions each name is needed.
 
-ghost use Rattle.std.specs.Prelude.{◌≡◌, ℕ, suc, ◌<◌, ◌≤◌, ◌+◌, ◌-◌, ◌==◌, ◌&&◌, ◌||◌, Bool, false, true};
-ghost use Rattle.std.specs.Prelude.{IfOk, OnOk, IsTrue, [], ◌∷◌, List, map, length, drop, slice_get};
-ghost use Rattle.std.specs.Prelude.{slice_set, Some};
+ghost use Rattle.std.specs.Prelude.{◌≡◌, ℕ, suc, ◌<◌, ◌≤◌, ◌+◌, ◌-◌, ◌==◌, ◌&&◌, ◌||◌, Bool, false, true, IfOk, OnOk, IsTrue, [], ◌∷◌, List, map, length, drop, slice_get, slice_set, Some};
 ghost use Rattle.std.specs.BTreeSet.{contains};
 ghost use Rattle.std.specs.Ordering.{nat_cmp};
 ghost use Rattle.g_graph.specs.WellFormed.{all_of, some_of};
@@ -10,24 +8,21 @@ ghost use Rattle.s_linear.specs.Linear.{Code, Codes, Instr as PlainInstr, choice
 ghost use Rattle.s_linear.specs.Lines.{Line as PlainLine, branch_zero, done, label, names_below, step_lines};
 ghost use Rattle.s_linear.specs.Views.{line_of};
 ghost use Rattle.a_place.specs.Places.{among, name_count};
-ghost use Rattle.a_share_def.specs.Share.{Names, needed_by_step, at_label};
-ghost use Rattle.a_share_def.specs.Marks.{step_marks};
+ghost use Rattle.a_place.specs.Share.{Names, needed_by_step, at_label};
+ghost use Rattle.a_place.specs.Marks.{step_marks};
 ghost use Rattle.a_share.specs.Bounds.{is_as, need_at, needed_now};
 ghost use Rattle.a_share.specs.Changes.{ArePassed, ChangesAt, IsEntered};
-ghost use Rattle.a_share.specs.Rows.{StandAt, Row, row_lines, row_marks, row_needed, turn_lines, turn_marks};
-ghost use Rattle.a_share.specs.Rows.{end_label};
+ghost use Rattle.a_share.specs.Rows.{StandAt, Row, row_lines, row_marks, row_needed, turn_lines, turn_marks, end_label};
 ghost use Rattle.a_share.specs.Unions.{IsUnion};
 ghost use Rattle.a_share.specs.Sound.{IsSound};
 ghost use Rattle.a_share.specs.Walk.{predicates_of};
 ghost use Rattle.a_share.specs.Walked.{WalksBack};
-ghost use Rattle.a_share.specs.Walking.{AreMovedBack, FindsAll, IsAt, IsWalked, HasRoom, RowStands};
-ghost use Rattle.a_share.specs.Walking.{LoopStands, ChoiceStands, before_of, is_done, is_jump_to};
-ghost use Rattle.a_share.specs.Walking.{is_label_line, is_stop, jump_of, leave_of, line_before};
+ghost use Rattle.a_share.specs.Walking.{AreMovedBack, FindsAll, IsAt, IsWalked, HasRoom, RowStands, LoopStands, ChoiceStands, before_of, is_done, is_jump_to, is_label_line, is_stop, jump_of, leave_of, line_before};
 
 use crate::needs::Needs;
 use crate::reading::predicate_of;
 use crate::segments::segments;
-use no_memory::NoMemory;
+use base::NoMemory;
 use s_linear::Line;
 use smallvec::SmallVec;
 use std::alloc::{AllocError, Global};

@@ -3,7 +3,7 @@ use Rattle.std.proofs.Common.{◌≡◌, ℕ, zero, suc, ◌+◌, ◌*◌, ◌<�
 use Rattle.std.specs.Prelude.{replicate}
 use Rattle.std.proofs.lemmas.List.{length-replicate, get_or-replicate, get_or_past, get_or_default}
 use Rattle.std.proofs.lemmas.Bool.{cases_lt, false≢true}
-use Rattle.limits.specs.Limits.{most_jobs}
+use Rattle.base.specs.Limits.{most_jobs}
 use Rattle.board_core.specs.declared.job_state.JobState.{JobState}
 use Rattle.board_core.specs.declared.job_state.JobState.TheVariants.{Open as OpenState}
 use Rattle.board_core.specs.Board.{Job, Open, Program, deps_of, result_of}

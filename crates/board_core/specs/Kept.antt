@@ -1,6 +1,6 @@
 -- The invariant of a board: the states of its jobs are those after its history.
 use Rattle.std.specs.Prelude.{◌≡◌, ℕ, ◌+◌, ◌*◌, ◌≤◌, Bool, true, false, Option, List, length, map, Contains}
-use Rattle.limits.specs.Limits.{most_jobs}
+use Rattle.base.specs.Limits.{most_jobs}
 use Rattle.board_core.specs.declared.event.Event.{Event}
 use Rattle.board_core.specs.declared.event.Event.TheVariants.{Stop}
 use Rattle.board_core.specs.declared.job_state.JobState.{JobState}

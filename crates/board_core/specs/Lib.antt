@@ -6,3 +6,6 @@ pub mod Choices
 pub mod JobStates
 pub mod Kept
 pub mod Laws
+pub mod Beginnings
+pub mod OwnEvents
+pub mod Alone

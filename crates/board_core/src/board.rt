@@ -3,7 +3,7 @@
 ghost use Rattle.std.specs.Prelude.{◌≡◌, ◌≢◌, ℕ, ◌+◌, ◌<◌, ◌≤◌, ◌↔◌, ◌++◌, None, length, map, option_map, option_to_list, replicate, slice_index, slice_index_or, OnOk, OnErr, IfOk, IfSome, IfNone, MatchBool, IsErr, IsTrue, [], ◌∷◌, vec_capacity, vec_len};
 ghost use Rattle.std.specs.List.{filter_map};
 ghost use Rattle.std.specs.Arc.{arc_value};
-ghost use Rattle.limits.specs.Limits.{most_jobs, most_workers};
+ghost use Rattle.base.specs.Limits.{most_jobs, most_workers};
 ghost use Rattle.board_core.specs.Board.{job_at, results, deps_of, HasStopped, Held, HoldsNone, IsLegal, IsNext, IsReady, MayClaim, NobodyStopped, result_of};
 ghost use Rattle.board_core.specs.Answers.{IsRanked};
 ghost use Rattle.board_core.specs.Calls.{with_event, AllOut, Claims, IsWaiting, IsDone, IsNextWithDeps, IsFirstBad, SomeHeld, SomebodyStopped};
@@ -16,7 +16,7 @@ use crate::job_state::{
     JobState, all_open, is_held_by, is_no_holder, is_some_held, next_ready, none_checked, release,
 };
 use crate::work::Work;
-use no_memory::NoMemory;
+use base::NoMemory;
 use std::alloc::{AllocError, Global};
 use std::marker::Model;
 use std::snapshot::Snapshot;

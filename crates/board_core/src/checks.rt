@@ -1,7 +1,7 @@
 //! The test of the deps of a board.
 
 ghost use Rattle.std.specs.Prelude.{◌≡◌, ℕ, ◌<◌, ◌≤◌, [], length, slice_index_or, IfSome, IfNone};
-ghost use Rattle.limits.specs.Limits.{most_jobs};
+ghost use Rattle.base.specs.Limits.{most_jobs};
 ghost use Rattle.board_core.specs.Calls.{IsFirstBadDep, IsFirstBad, NoBadDep};
 ghost use Rattle.board_core.specs.History.{dep_lists};
 

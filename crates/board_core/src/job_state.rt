@@ -1,7 +1,7 @@
 //! The states of jobs, without their results.
 
 ghost use Rattle.std.specs.Prelude.{◌≡◌, ℕ, ◌<◌, ◌≤◌, ◌↔◌, length, map, replicate, slice_index, slice_index_or, Contains, [], IsTrue, IfOk, IfSome, IfNone};
-ghost use Rattle.limits.specs.Limits.{most_jobs};
+ghost use Rattle.base.specs.Limits.{most_jobs};
 ghost use Rattle.board_core.specs.JobStates.{job_state_at, AllCheckedOut, IsNextState, IsReadyState, IsSomeHeld, released_state};
 ghost use Rattle.board_core.specs.History.{dep_lists};
 

@@ -3,7 +3,7 @@
 ghost use Rattle.std.specs.Prelude.{◌≡◌, ◌<◌, ℕ, List, map, IfOk};
 ghost use Rattle.std.specs.Arc.{arc_value};
 
-use no_memory::NoMemory;
+use base::NoMemory;
 use std::alloc::Global;
 use std::sync::Arc;
 

@@ -10,7 +10,7 @@ use Rattle.atomic_table.specs.Table.{State, Splits, Joins, opening as opening_ta
 use Rattle.atomic_table.proofs.Lists.{at_set, at_longer, at_snoc, set_else}
 use Rattle.board_core.specs.declared.event.Event.{Event}
 use Rattle.board_core.specs.History.{History}
-use Rattle.board_laws.specs.OwnEvents.{own_events}
+use Rattle.board_core.specs.OwnEvents.{own_events}
 use Rattle.board_lock.specs.declared.view.View.{View}
 use Rattle.board_lock.specs.Rule.{opening, with_events, Holds, spent, ticket_of, program_weight, spents, IsQueue, IsTakenIn, IsKnown, IsOut, IsPlaced, IsOneHistory}
 use Rattle.board_lock.specs.Seats.{sitting_of, first_view, Closes}

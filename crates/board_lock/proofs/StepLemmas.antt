@@ -10,7 +10,7 @@ use Rattle.atomic_table.proofs.Lists.{at_set, at_map, set_again}
 use Rattle.board_core.specs.declared.event.Event.{Event}
 use Rattle.board_core.specs.Board.{IsLegal}
 use Rattle.board_core.specs.History.{History, program_of}
-use Rattle.board_laws.specs.OwnEvents.{worker_of, own_events}
+use Rattle.board_core.specs.OwnEvents.{worker_of, own_events}
 use Rattle.board_lock.specs.declared.view.View.{View}
 use Rattle.board_lock.specs.Rule.{opening, with_events, IsBeginning, spent, ticket_of, IsQueue, IsKnown, IsOut, IsPlaced, IsOneHistory}
 use Rattle.board_lock.specs.Steps.{Part, moved, waiting, on_turn, noted, rested, compared, draws, looks, notes, leaves, Compares, compares}

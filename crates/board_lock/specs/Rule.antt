@@ -7,7 +7,7 @@ use Rattle.atomic_table.specs.Table.{State}
 use Rattle.board_core.specs.declared.event.Event.{Event}
 use Rattle.board_core.specs.Board.{IsLegal}
 use Rattle.board_core.specs.History.{History, program_of}
-use Rattle.board_laws.specs.OwnEvents.{own_events}
+use Rattle.board_core.specs.OwnEvents.{own_events}
 use Rattle.board_lock.specs.declared.view.View.{View}
 
 -- the board without its events

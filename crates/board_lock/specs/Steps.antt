@@ -4,7 +4,7 @@ use Rattle.atomic_table.specs.Table.{Me, Step, rest}
 use Rattle.board_core.specs.declared.event.Event.{Event}
 use Rattle.board_core.specs.Board.{IsLegal}
 use Rattle.board_core.specs.History.{History, program_of}
-use Rattle.board_laws.specs.OwnEvents.{own_events}
+use Rattle.board_core.specs.OwnEvents.{own_events}
 use Rattle.board_lock.specs.declared.view.View.{View}
 use Rattle.board_lock.specs.Rule.{opening, IsBeginning}
 

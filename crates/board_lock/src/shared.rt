@@ -4,7 +4,7 @@ ghost use Rattle.std.specs.Prelude.{◌≡◌, ◌≢◌, ◌+◌, ◌<◌, ◌+
 ghost use Rattle.board_core.specs.declared.event.Event.{Event};
 ghost use Rattle.board_core.specs.Board.{IsLegal};
 ghost use Rattle.board_core.specs.History.{History, program_of};
-ghost use Rattle.board_laws.specs.OwnEvents.{worker_of};
+ghost use Rattle.board_core.specs.OwnEvents.{worker_of};
 ghost use Rattle.board_lock.specs.Rule.{opening};
 ghost use Rattle.board_lock.specs.Seats.{IsSeatOf, IsBoardOf, IsTaken, TakesIn, Closes, sitting, first_sitting, with_turn, with_noted, without_turn, with_split, split_from};
 ghost use Rattle.board_lock.specs.Steps.{Enters, Compares, waiting, noted};
@@ -12,8 +12,8 @@ ghost use Rattle.board_lock.specs.Steps.{Enters, Compares, waiting, noted};
 use crate::steps::{Compare, Draw, Leave, Look, NewNumber, Note, Noted, TakeIn};
 use crate::view::{OneHistory, Seat, View};
 use atomic_table::{Refused, Table, TableRule};
+use base::NoMemory;
 use board_core::{Board, Event, Work};
-use no_memory::NoMemory;
 use std::alloc::Global;
 use std::marker::Brand;
 use std::snapshot::Snapshot;

@@ -5,7 +5,7 @@ use Rattle.atomic_table.specs.declared.shared.Seat.{Seat}
 use Rattle.board_core.specs.declared.event.Event.{Event}
 use Rattle.board_core.specs.History.{History}
 use Rattle.board_core.specs.Calls.{with_event}
-use Rattle.board_laws.specs.OwnEvents.{worker_of}
+use Rattle.board_core.specs.OwnEvents.{worker_of}
 use Rattle.board_lock.specs.declared.view.View.{View}
 use Rattle.board_lock.specs.Rule.{opening}
 

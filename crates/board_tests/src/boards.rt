@@ -1,6 +1,6 @@
 //! Boards of jobs of a shape.
 ghost use Rattle.std.specs.Prelude.{◌≡◌, ◌≤◌, [], IfOk};
-ghost use Rattle.limits.specs.Limits.{most_jobs, most_workers};
+ghost use Rattle.base.specs.Limits.{most_jobs, most_workers};
 
 use crate::turns::Numbers;
 use board_core::{Board, OpenFault};

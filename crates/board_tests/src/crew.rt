@@ -2,7 +2,7 @@
 
 // The seats of one shared board, driven step by step or in threads.
 ghost use Rattle.std.specs.Prelude.{◌≡◌, ℕ, ◌+◌, ◌<◌, ◌≤◌, [], Some, length, vec_capacity, vec_len};
-ghost use Rattle.limits.specs.Limits.{most_jobs};
+ghost use Rattle.base.specs.Limits.{most_jobs};
 ghost use Rattle.board_core.specs.History.{History};
 ghost use Rattle.board_lock.specs.Locks.{lock_of};
 ghost use Rattle.board_lock.specs.Rule.{opening};
@@ -10,10 +10,9 @@ ghost use Rattle.board_tests.specs.declared.turns.Numbers.{Numbers};
 ghost use Rattle.board_tests.specs.Rests.{IsProgram, RestsAs, resting};
 
 use crate::turns::{Act, Answer, Numbers, on_board, turn};
+use base::{MOST_JOBS, NoMemory};
 use board_core::{Board, Claim};
 use board_lock::{Seat, Shared};
-use limits::MOST_JOBS;
-use no_memory::NoMemory;
 use std::alloc::Global;
 use std::marker::{Brand, PhantomData};
 use std::sync::{Arc, Wait};

@@ -1,7 +1,7 @@
 //! Units and ranks of small programs.
 
+use base::NoMemory;
 use call_order::{Units, all_known, units};
-use no_memory::NoMemory;
 use std::alloc::{AllocError, Global};
 use std::test::Fail;
 

@@ -3,8 +3,8 @@
 use crate::boards::{Shape, opened};
 use crate::crew::{Step, run, run_bare};
 use crate::turns::{Act, Answer, Numbers};
+use base::{MOST_JOBS, MOST_WORKERS};
 use board_core::{Board, Claim, Event, OpenFault, Work};
-use limits::{MOST_JOBS, MOST_WORKERS};
 use std::alloc::Global;
 use std::sync::Wait;
 use std::test::Fail;

@@ -2,15 +2,15 @@
 
 // One turn of a seat, in which it takes the board, does one act, and gives the board back.
 ghost use Rattle.std.specs.Prelude.{◌≡◌, ◌<◌, ◌≤◌, Some, true, false, vec_capacity};
-ghost use Rattle.limits.specs.Limits.{most_jobs};
+ghost use Rattle.base.specs.Limits.{most_jobs};
 ghost use Rattle.board_lock.specs.Locks.{lock_of};
 ghost use Rattle.board_lock.specs.Rule.{opening};
 ghost use Rattle.board_lock.specs.Seats.{IsSeatOf, IsBoardOf};
 ghost use Rattle.board_tests.specs.Rests.{IsAct, IsProgram, RestsAs, KeepsCounts};
 
+use base::NoMemory;
 use board_core::{Board, Claim, Event, Work};
 use board_lock::{Seat, Shared};
-use no_memory::NoMemory;
 use std::alloc::Global;
 use std::sync::{Arc, Wait};
 

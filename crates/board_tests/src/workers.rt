@@ -2,10 +2,10 @@
 ghost use Rattle.std.specs.Prelude.{◌≡◌, ◌<◌, []};
 
 use crate::turns::Numbers;
+use base::NoMemory;
 use board_core::Board;
 use board_lock::Shared;
 use board_work::{Gate, dismiss, hire, work};
-use no_memory::NoMemory;
 use std::alloc::Global;
 use std::sync::Wait;
 use std::thread::Threads;

@@ -4,10 +4,9 @@
 use crate::boards::{Shape, opened};
 use crate::turns::Numbers;
 use crate::workers::{Left, driven};
+use base::{MOST_JOBS, MOST_WORKERS, NoMemory};
 use board_core::Event;
 use board_work::{CountGate, Gate, MeetGate, OpenGate};
-use limits::{MOST_JOBS, MOST_WORKERS};
-use no_memory::NoMemory;
 use std::alloc::Global;
 use std::sync::Wait;
 use std::test::Fail;

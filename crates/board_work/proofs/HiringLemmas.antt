@@ -1,13 +1,13 @@
 -- Lists of workers that grow and shrink, and what a split makes of the first seat.
 use Rattle.std.proofs.Common.{◌≡◌, ℕ, zero, suc, ◌+◌, ◌≤◌, Option, None, List, [], ◌∷◌, ◌++◌, length, remove, slice_index_or, vec_capacity, arith, refl, sym, ap, ◌∙◌, subst}
 use Rattle.std.proofs.lemmas.List.{append-nil, length-append}
-use Rattle.limits.specs.Limits.{most_jobs}
+use Rattle.base.specs.Limits.{most_jobs}
 use Rattle.atomic_table.specs.Seated.{TableId}
 use Rattle.atomic_table.specs.declared.shared.Seat.{Seat}
 use Rattle.board_core.specs.declared.event.Event.{Event}
 use Rattle.board_core.specs.Board.{IsLegal}
 use Rattle.board_core.specs.History.{History, program_of}
-use Rattle.board_laws.specs.OwnEvents.{held_from}
+use Rattle.board_core.specs.OwnEvents.{held_from}
 use Rattle.board_lock.specs.declared.view.View.{View}
 use Rattle.board_lock.specs.Rule.{opening, IsBeginning}
 use Rattle.board_lock.specs.Seats.{Sitting, sitting, IsSeatOf, TakesIn, Closes, split_from}

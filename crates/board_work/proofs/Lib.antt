@@ -1,3 +1,4 @@
+mod Driven
 mod SeatLemmas
 mod CrewLemmas
 mod HiringLemmas

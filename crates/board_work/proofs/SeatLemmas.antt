@@ -9,7 +9,7 @@ use Rattle.board_core.specs.Board.{Held, job_at, results, deps_of, HoldsNone, Ha
 use Rattle.board_core.specs.Calls.{with_event, AllOut, Claims, IsDone, SomebodyStopped}
 use Rattle.board_core.specs.History.{History, program_of, state_of}
 use Rattle.board_core.specs.Laws.{DepsGiveAnswer}
-use Rattle.board_laws.specs.OwnEvents.{worker_of, held_after, held_from, is_stop, has_stop, OwnEventsDecide, OwnStopsDecide}
+use Rattle.board_core.specs.OwnEvents.{worker_of, held_after, held_from, is_stop, has_stop, OwnEventsDecide, OwnStopsDecide}
 use Rattle.board_lock.proofs.lemmas.Views.{own-event}
 use Rattle.board_lock.specs.Rule.{opening}
 use Rattle.board_lock.specs.Seats.{Sitting, with_noted, without_turn}

@@ -5,7 +5,7 @@ use Rattle.board_core.specs.Calls.{SomebodyStopped}
 use Rattle.board_core.specs.History.{History, program_of}
 use Rattle.board_core.specs.declared.event.Event.{Event}
 use Rattle.board_core.specs.declared.event.Event.TheVariants.{Claim, Publish, Stop}
-use Rattle.board_laws.specs.OwnEvents.{own_events, held_from, has_stop}
+use Rattle.board_core.specs.OwnEvents.{own_events, held_from, has_stop}
 use Rattle.board_lock.specs.Rule.{opening}
 use Rattle.board_lock.specs.Seats.{Sitting}
 use Rattle.board_work.specs.declared.turns.Hand.{Hand}

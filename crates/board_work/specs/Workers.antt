@@ -1,12 +1,12 @@
 -- Workers of a shared board: what is asked of each, and what is known of it when it has returned.
 use Rattle.std.specs.Prelude.{◌≡◌, ℕ, ◌<◌, ◌≤◌, true, false, Option, None, Some, List, length, slice_index_or, vec_capacity}
-use Rattle.limits.specs.Limits.{most_jobs}
+use Rattle.base.specs.Limits.{most_jobs}
 use Rattle.atomic_table.specs.Seated.{TableId}
 use Rattle.atomic_table.specs.declared.shared.Seat.{Seat}
 use Rattle.board_core.specs.Board.{replay}
 use Rattle.board_core.specs.Calls.{AllOut, SomebodyStopped}
 use Rattle.board_core.specs.History.{History, program_of}
-use Rattle.board_laws.specs.OwnEvents.{held_from}
+use Rattle.board_core.specs.OwnEvents.{held_from}
 use Rattle.board_lock.specs.declared.view.View.{View}
 use Rattle.board_lock.specs.Rule.{opening}
 use Rattle.board_lock.specs.Seats.{Sitting, sitting, IsSeatOf}

@@ -7,9 +7,9 @@ ghost use Rattle.board_work.specs.Workers.{Each, EachOf, SomeAt, MayWork, HasWor
 use crate::gate::Gate;
 use crate::serving::serve;
 use crate::worker::{Worker, WorkerOf};
+use base::NoMemory;
 use board_core::Work;
 use board_lock::Shared;
-use no_memory::NoMemory;
 use std::alloc::Global;
 use std::sync::{Arc, Wait};
 use std::thread;

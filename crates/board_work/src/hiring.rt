@@ -1,7 +1,7 @@
 //! How all workers of a shared board are hired and dismissed.
 
 ghost use Rattle.std.specs.Prelude.{◌≡◌, ◌<◌, ◌≤◌, suc, vec_capacity, vec_len, IfOk, List};
-ghost use Rattle.limits.specs.Limits.{most_jobs};
+ghost use Rattle.base.specs.Limits.{most_jobs};
 ghost use Rattle.board_core.specs.declared.event.Event.{Event};
 ghost use Rattle.board_core.specs.History.{History};
 ghost use Rattle.board_lock.specs.Locks.{lock_of};
@@ -10,10 +10,9 @@ ghost use Rattle.board_work.specs.Crews.{IsMember, IsCrew, IsTakingIn, IsDismiss
 ghost use Rattle.board_work.specs.Workers.{Each};
 
 use crate::worker::{Worker, WorkerOf};
+use base::{MOST_JOBS, NoMemory};
 use board_core::{Board, Work};
 use board_lock::{Seat, Shared};
-use limits::MOST_JOBS;
-use no_memory::NoMemory;
 use std::alloc::Global;
 
 // A worker at this seat. It has room for as many results as a board has jobs at most.

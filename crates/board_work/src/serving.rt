@@ -4,7 +4,7 @@ ghost use Rattle.std.specs.Prelude.{◌≡◌, ◌<◌, ◌∷◌, ◌++◌, [],
 ghost use Rattle.std.specs.Arc.{arc_value};
 ghost use Rattle.board_core.specs.Calls.{SomebodyStopped};
 ghost use Rattle.board_core.specs.declared.event.Event.{Event};
-ghost use Rattle.board_laws.specs.OwnEvents.{has_stop};
+ghost use Rattle.board_core.specs.OwnEvents.{has_stop};
 ghost use Rattle.board_lock.specs.Locks.{lock_of};
 ghost use Rattle.board_lock.specs.Seats.{sitting};
 ghost use Rattle.board_work.specs.Workers.{IsResting, IsSameSeat, WorksAt, MayWork, HasEnded, HasWorked};
@@ -13,9 +13,9 @@ ghost use Rattle.board_work.specs.Turns.{IsIdle, Holds, IsMadeOf, IsInHand, Hand
 use crate::gate::Gate;
 use crate::turns::{Hand, Next, enter, stop, turn};
 use crate::worker::{Worker, WorkerOf};
+use base::NoMemory;
 use board_core::Work;
 use board_lock::Shared;
-use no_memory::NoMemory;
 use std::alloc::Global;
 use std::sync::{Arc, Wait};
 

@@ -2,20 +2,20 @@
 
 ghost use Rattle.std.specs.Prelude.{◌≡◌, ◌≤◌, ◌++◌, List, false, None, Some, map, vec_capacity};
 ghost use Rattle.std.specs.Arc.{arc_value};
-ghost use Rattle.limits.specs.Limits.{most_jobs};
+ghost use Rattle.base.specs.Limits.{most_jobs};
 ghost use Rattle.board_core.specs.declared.event.Event.{Event};
-ghost use Rattle.board_laws.specs.OwnEvents.{held_from, has_stop};
+ghost use Rattle.board_core.specs.OwnEvents.{held_from, has_stop};
 ghost use Rattle.board_lock.specs.Locks.{lock_of};
 ghost use Rattle.board_lock.specs.Seats.{IsSeatOf, sitting, with_noted};
 ghost use Rattle.board_work.specs.Workers.{IsResting, IsSameSeat};
 ghost use Rattle.board_work.specs.Turns.{IsAtBoard, IsIdle, IsResultOf, IsInHand, IsNextFor, IsChosen, IsTurn, handing_in};
 
 use crate::worker::Worker;
+use base::NoMemory;
+use board_core::history_laws::{own_events_decide, own_stops_decide};
 use board_core::laws::deps_give_answer;
 use board_core::{Board, Claim, Work};
-use board_laws::laws::{own_events_decide, own_stops_decide};
 use board_lock::{Seat, Shared};
-use no_memory::NoMemory;
 use std::sync::{Arc, Wait};
 
 /// What a worker has when it takes the board.

@@ -4,3 +4,6 @@ pub mod InitViews
 pub mod Lists
 pub mod Operators
 pub mod StmtViews
+pub mod GrammarLaws
+pub mod CheckedLists
+pub mod Spans

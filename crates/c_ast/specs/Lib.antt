@@ -13,5 +13,7 @@ pub mod Spelling
 pub mod Statements
 pub mod Terminals
 pub mod Tree
--- What is passed on of the libraries below.
-pub use Rattle.c_lex.specs as c_lex
+pub mod Beginnings
+pub mod Laws
+pub mod Reader
+pub mod PredictSets

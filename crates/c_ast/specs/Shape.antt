@@ -1,6 +1,6 @@
 -- Shaped trees: those of the programs of the language.
 use Rattle.std.specs.Prelude.{◌≤◌}
-use Rattle.c_lex.specs.limits.Limits.{most_nesting}
+use Rattle.base.specs.Limits.{most_nesting}
 use Rattle.c_ast.specs.Nonterminals.{Many}
 use Rattle.c_ast.specs.Grammar.{Fits, One}
 use Rattle.c_ast.specs.Productions.{Externals}

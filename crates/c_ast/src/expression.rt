@@ -6,7 +6,7 @@ ghost use Rattle.c_ast.specs.Expressions.{expr_tree, list_tree};
 ghost use Rattle.c_ast.specs.Spelling.{start_of};
 
 use crate::{AssignOp, BinaryOp, Identifier, IncDec, Next, Selection, Span, Spec, UnaryOp};
-use c_lex::Bytes;
+use base::Bytes;
 use sqlite_items::{Boxed, Items};
 
 /// An expression without a comma operator outside parentheses (ISO 9899:2011, 6.5), with the

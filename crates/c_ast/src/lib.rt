@@ -1,11 +1,12 @@
-//! The syntax tree of a program, and the grammar that it follows (ISO 9899:2011, 6.5 to 6.9). The
-//! grammar is a table of productions; beside it stand the spelling of a tree, its offsets and its
-//! nesting.
+//! The syntax tree, its spelling, and the laws of the grammar.
+//! The grammar is a table of productions; beside it stand the spelling of a tree, its offsets and
+//! its nesting.
 #![tactic(auto)]
 
 mod declaration;
 mod expression;
 mod external;
+pub mod laws;
 mod list;
 mod operator;
 mod specifier;

@@ -1,6 +1,6 @@
 //! Identifiers, and the offsets at which tokens stand in the source.
 
-use c_lex::Name;
+use base::Name;
 
 /// Where a token stands: the spans of its first byte and of the byte after its last.
 #[derive(Clone, Copy)]

@@ -18,7 +18,7 @@ use Rattle.c_ast.specs.Productions as l
 use Rattle.c_ast.specs.Statements.{block_tree}
 use Rattle.c_ast.specs.Tree.{Tree}
 use Rattle.c_ast.proofs.lemmas.Lists.{many-none}
-use Rattle.c_check_statement.proofs.of_c_check_expression.lemmas.Lists.{many_next}
+use Rattle.c_check_expression.proofs.lemmas.Lists.{many_next}
 use Rattle.c_check_scope.specs.Scopes.{Name}
 use Rattle.c_check_def.specs.Externals.{is_block}
 use Rattle.c_check_def.specs.Check.{defined_in, defined_by, defined_after_type, with_defined}

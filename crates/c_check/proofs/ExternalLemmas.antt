@@ -23,7 +23,7 @@ use Rattle.c_ast.specs.Specifiers.{constant, stars, spec_tree}
 use Rattle.c_ast.specs.Spelling.{spelled, start_of}
 use Rattle.c_ast.specs.Tree.{Tree, Nil}
 use Rattle.c_ast.proofs.lemmas.Lists.{many-none}
-use Rattle.c_check_statement.proofs.of_c_check_expression.lemmas.Lists.{count_many, many_next}
+use Rattle.c_check_expression.proofs.lemmas.Lists.{count_many, many_next}
 use Rattle.c_check_scope.specs.Scopes.{Name}
 use Rattle.c_check_def.specs.Leaves.{offset_of, name_of, count_of, is_present}
 use Rattle.c_check_def.specs.State.{State, after}

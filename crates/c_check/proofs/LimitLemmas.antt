@@ -1,12 +1,11 @@
 -- Sums of bytes of a list's first elements, and the first one that passes a limit.
 use Rattle.std.proofs.Common.{◌≡◌, ℕ, ◌+◌, ◌<◌, Bool, true, false, List, [], ◌∷◌, ◌++◌, length, take, get_or, map, Option, None, Some, refl, sym, ap, ◌∙◌, arith}
 use Rattle.std.specs.Prelude.{nat_lt, if◌then◌else◌}
-use Rattle.std.specs.List.{sum}
+use Rattle.std.specs.List.{sum, sum_by}
 use Rattle.std.specs.Option.{option_or}
 use Rattle.std.proofs.lemmas.List.{take_more}
-use Rattle.std.specs.List.{sum_by}
 use Rattle.std.proofs.lemmas.List.Sums.{sum-map, sum_by-cons, sum_by_more}
-use Rattle.limits.specs.Limits.{most_global_bytes}
+use Rattle.base.specs.Limits.{most_global_bytes}
 use Rattle.c_type.specs.Layout.{Definitions}
 use Rattle.c_typed.specs.Typed.{GlobalTree}
 use Rattle.c_check_def.specs.Limits.{global_bytes, passing}

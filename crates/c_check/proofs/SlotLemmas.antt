@@ -13,12 +13,12 @@ use Rattle.c_check_def.specs.Specifiers.{specified_type}
 use Rattle.c_check_def.specs.DeclaredTypes.{param_type}
 use Rattle.c_check_def.specs.Declarators.{open_dimensions, is_fixed}
 use Rattle.c_check_def.specs.Externals.{Param, declare_if, param_name, param_offset, param_at, param, more_params, is_lone_void, params, bind_if, bind_params}
-use Rattle.c_check_external.proofs.of_c_check_laws.lemmas.States.{step_then}
-use Rattle.c_check_external.proofs.of_c_check_laws.lemmas.Steps.{breaks_if_steps, specified_type_steps}
-use Rattle.c_check_external.proofs.of_c_check_laws.lemmas.StatementSteps.{open_dimensions_steps}
-use Rattle.c_check_statement.proofs.of_c_check_arm.lemmas.Slots.{Adds, adds_none, adds_then, keeps_slots, items_adds, entered}
+use Rattle.c_check_laws.proofs.lemmas.States.{step_then}
+use Rattle.c_check_laws.proofs.lemmas.Steps.{breaks_if_steps, specified_type_steps}
+use Rattle.c_check_laws.proofs.lemmas.StatementSteps.{open_dimensions_steps}
+use Rattle.c_check_statement.proofs.lemmas.Slots.{Adds, adds_none, adds_then, keeps_slots, items_adds, entered}
 use Rattle.c_check.specs.Functions.{body_items}
-use Rattle.c_check_external.proofs.of_c_check_laws.lemmas.Params.{param_type_steps}
+use Rattle.c_check_laws.proofs.lemmas.Params.{param_type_steps}
 
 -- ---- types of parameters
 

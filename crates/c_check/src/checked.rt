@@ -11,11 +11,11 @@ use crate::externals::externals;
 use crate::fault::{CheckFault, fault_of};
 use crate::main_function::has_main;
 use crate::quantities::above_limits;
+use base::NoMemory;
 use c_ast::Unit;
 use c_check_def::Quantity;
 use c_check_state::State;
 use c_typed::Typed;
-use no_memory::NoMemory;
 use std::alloc::Global;
 
 /// The typed program that a source of this length, in bytes, stands for, or why it is refused

@@ -7,9 +7,9 @@ ghost use Rattle.c_ast.specs.Externals.{external_tree, body_tree};
 ghost use Rattle.c_check_def.specs.Externals.{is_block};
 ghost use Rattle.c_check_def.specs.Check.{defined_in, defined_by, with_defined};
 
+use base::NoMemory;
 use c_ast::{Body, External};
 use c_check_scope::Names;
-use no_memory::NoMemory;
 use std::alloc::Global;
 
 /// The names of the functions that a file defines, in the order of their definitions.

@@ -10,12 +10,11 @@ ghost use Rattle.c_check_def.specs.Check.{externals};
 ghost use Rattle.c_check.specs.Functions.{unless_broken};
 
 use crate::functions::function;
+use crate::structure;
+use base::NoMemory;
 use c_ast::{External, Function, Globals};
-use c_check_external::c_check_type::specified_type;
-use c_check_external::structure;
-use c_check_state::State;
-use c_check_statement::c_check_declaration::{global_declared, more_globals};
-use no_memory::NoMemory;
+use c_check_declaration::{global_declared, more_globals};
+use c_check_state::{State, specified_type};
 
 /// The declarations of a file in order, up to the first one that breaks a rule (ISO/IEC 9899:2011,
 /// 6.9).

@@ -5,8 +5,8 @@ ghost use Rattle.c_check_def.specs.Refusals.{rule_broken};
 ghost use Rattle.c_check.specs.declared.fault.CheckFault.TheVariants as fault;
 ghost use Rattle.c_check.specs.Faults.{Refuses};
 
+use base::NoMemory;
 use c_check_def::{Broken, RefusalKind};
-use no_memory::NoMemory;
 use thiserror::Error;
 
 /// Why a program is refused, with the offset in the source, in bytes. Of several broken rules the

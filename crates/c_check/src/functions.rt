@@ -4,21 +4,19 @@ ghost use Rattle.std.specs.Prelude.{◌≡◌, ◌∷◌, ◌++◌, [], map, len
 ghost use Rattle.c_ast.specs.Externals.{params as params_tree, body_tree};
 ghost use Rattle.c_ast.specs.Statements.{block_tree, items_tree};
 ghost use Rattle.c_typed.specs.StmtViews.{items_of};
-ghost use Rattle.c_operator_def.specs.Types.{is_scalar};
+ghost use Rattle.c_check_def.specs.Types.{is_scalar};
 ghost use Rattle.c_check_def.specs.State.{within_scope};
 ghost use Rattle.c_check_def.specs.Externals.{params, variable_tree, function_tree, function};
 ghost use Rattle.c_check.specs.Functions.{function_declared, function_ended, body_items};
 
 use crate::defined::is_block;
+use crate::{Param, bind_params, declare_function, name_params, params};
+use base::NoMemory;
 use c_ast::{Block, BlockItem, Body, Function, Identifier, Params};
-use c_check_external::c_check_type::{Specified, result_type};
-use c_check_external::{Param, bind_params, declare_function, name_params, params};
-use c_check_state::{MaybeType, State, Variable, or_void};
-use c_check_statement::c_check_arm::Jumps;
-use c_check_statement::items;
+use c_check_state::{MaybeType, Specified, State, Variable, or_void, result_type};
+use c_check_statement::{Jumps, items};
 use c_type::{CType, TypeForm};
 use c_typed::{Item, TFunction, Variable as TVariable};
-use no_memory::NoMemory;
 use std::alloc::Global;
 
 /// A declaration or a definition of a function that begins at an offset (ISO/IEC 9899:2011,

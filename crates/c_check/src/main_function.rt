@@ -3,15 +3,14 @@
 ghost use Rattle.std.specs.Prelude.{◌≡◌, IfOk};
 ghost use Rattle.std.specs.Option.{option_copied};
 ghost use Rattle.c_typed.specs.WellTyped.{int};
-ghost use Rattle.c_operator_def.specs.Types.{same_type};
+ghost use Rattle.c_check_def.specs.Types.{same_type};
 ghost use Rattle.c_check_def.specs.Check.{has_main, is_main};
 
-use c_check_external::c_operator::same_type;
+use base::{Name, NoMemory};
 use c_check_state::State;
-use c_lex::Name;
+use c_operator::same_type;
 use c_type::{CType, Scalar};
 use c_typed::TFunction;
-use no_memory::NoMemory;
 
 /// Whether the file defines `main` as `int main(void)` (ISO/IEC 9899:2011, 5.1.2.2.1).
 pub(crate) fn has_main(state: &State) -> Result<bool, NoMemory>

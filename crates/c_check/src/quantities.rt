@@ -3,18 +3,17 @@
 ghost use Rattle.std.specs.Prelude.{◌≡◌, ◌+◌, nat_lt, Some, None, map, if◌then◌else◌, IfOk};
 ghost use Rattle.std.specs.Option.{option_or, option_map};
 ghost use Rattle.std.specs.List.{sum};
-ghost use Rattle.limits.specs.Limits.{most_parameters, most_global_bytes, most_object_bytes, counted_bytes};
+ghost use Rattle.base.specs.Limits.{most_parameters, most_global_bytes, most_object_bytes, counted_bytes};
 ghost use Rattle.c_type.specs.Layout.{size};
 ghost use Rattle.c_check_def.specs.declared.refusal_kind.Quantity.TheVariants.{Parameters, ObjectBytes, GlobalBytes};
 ghost use Rattle.c_check_def.specs.Refusals.{above_limit};
 ghost use Rattle.c_check_def.specs.Limits.{above_limits, many_functions, first_above, bytes_of, object_bytes, global_bytes, many_global_bytes};
 ghost use Rattle.c_check.specs.Faults.{maybe_refusal};
 
+use base::{MOST_FUNCTIONS, MOST_GLOBAL_BYTES, MOST_OBJECT_BYTES, MOST_PARAMETERS, NoMemory};
 use c_check_def::Quantity;
 use c_type::{CType, Types, is_laid_out, size_of};
 use c_typed::{TFunction, TGlobal, Typed, Variable};
-use limits::{MOST_FUNCTIONS, MOST_GLOBAL_BYTES, MOST_OBJECT_BYTES, MOST_PARAMETERS};
-use no_memory::NoMemory;
 
 /// A quantity above its limit, with its count, at the offset of what passes the limit.
 #[derive(Clone, Copy)]

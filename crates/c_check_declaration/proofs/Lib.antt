@@ -5,5 +5,3 @@ pub mod PieceLemmas
 pub mod BegunLemmas
 pub mod CompletedLemmas
 pub mod GlobalLemmas
--- What is passed on of the libraries below.
-pub use Rattle.c_check_expression.proofs as of_c_check_expression

@@ -10,11 +10,10 @@ ghost use Rattle.c_check_declaration.specs.Parts.{text_length};
 use crate::parts::character_count;
 use crate::shapes::count_in;
 use crate::texts::text_of;
+use base::{Bytes, NoMemory};
 use c_ast::{Expr, Init};
 use c_check_state::MaybeType;
-use c_lex::Bytes;
 use c_type::{CType, TypeForm};
-use no_memory::NoMemory;
 use std::alloc::Global;
 use std::sync::Arc;
 

@@ -10,12 +10,11 @@ ghost use Rattle.c_check_declaration.specs.Bounds.{variable_begun, variable_name
 
 use crate::dimensions::open_dimensions;
 use crate::variables::initialise_variable;
+use base::NoMemory;
 use c_ast::{Declarator, Identifier, Initializer, Locals, Next};
 use c_check_def::{Dimension, Meaning};
-use c_check_expression::c_check_type::{Specified, object_type, specified_type};
-use c_check_state::{MaybeType, State};
+use c_check_state::{MaybeType, Specified, State, object_type, specified_type};
 use c_typed::{Declaration, Initial, Item};
-use no_memory::NoMemory;
 
 /// Appends the variables that a declaration in a block declares, in order, to the items of the
 /// block (ISO/IEC 9899:2011, 6.7). A variable is in scope after its declarator, so also in its own

@@ -9,12 +9,12 @@ ghost use Rattle.c_check_def.specs.Declarators.{open_dimension, open_dimensions}
 ghost use Rattle.c_check_state.specs.Frames.{KeepsDeclarations};
 ghost use Rattle.c_check_declaration.specs.Bounds.{bound_dimension};
 
+use base::NoMemory;
 use c_ast::{Expr, OpenDimension};
 use c_check_def::Dimension;
-use c_check_expression::c_check_term::size;
 use c_check_expression::expression;
 use c_check_state::State;
-use no_memory::NoMemory;
+use c_check_term::size;
 
 /// The dimensions of a declarator, whose sizes are constants, the outermost first (ISO/IEC
 /// 9899:2011, 6.7.6.2).

@@ -1,24 +1,22 @@
 //! Declarations of variables at file scope.
 
-ghost use Rattle.std.specs.Prelude.{◌≡◌, length, IfOk, OnOk};
+ghost use Rattle.std.specs.Prelude.{◌≡◌, length, IfOk, OnOk, map};
 ghost use Rattle.c_ast.specs.Declarations.{init_tree, initializer, open_dimensions as dimension_trees, more_declarators as declarator_trees};
 ghost use Rattle.c_check_def.specs.Declarators.{global_declarator, more_globals, initialise_global, written_in};
 ghost use Rattle.c_check_declaration.specs.Globals.{new_global, global_begun, global_sized, global_typed, begun_global};
 ghost use Rattle.c_typed.specs.ProgramEncoding.{written_of as written_tree};
 ghost use Rattle.c_check_declaration.specs.Pieces.{if_made};
-ghost use Rattle.std.specs.Prelude.{map};
 
 use crate::completed::completed;
 use crate::declarators::{is_begun, is_fixed};
 use crate::dimensions::open_dimensions;
 use crate::initialisers::initialiser;
 use crate::pieces::Pieces;
+use base::NoMemory;
 use c_ast::{Declarator, Identifier, Init, Initializer, Next};
 use c_check_def::{Dimension, Meaning};
-use c_check_expression::c_check_type::{Specified, object_type, small_if_some};
-use c_check_state::{GlobalObject, MaybeType, State};
+use c_check_state::{GlobalObject, MaybeType, Specified, State, object_type, small_if_some};
 use c_typed::Written;
-use no_memory::NoMemory;
 use std::alloc::Global;
 
 /// Declares the variables at file scope that follow the first (ISO/IEC 9899:2011, 6.9.2).

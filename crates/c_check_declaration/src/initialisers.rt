@@ -16,10 +16,10 @@ use crate::pieces::Pieces;
 use crate::shapes::{count_in, sets_to_zero};
 use crate::texts::text_of;
 use crate::values::{characters_begun, value};
+use base::NoMemory;
 use c_ast::{Expr, Init};
 use c_check_def::RefusalKind;
 use c_check_state::{MaybeType, State};
-use no_memory::NoMemory;
 
 // The element of an object: its type, and the offset that it begins at.
 #[derive(Drop)]

@@ -3,10 +3,6 @@
 //! of memory apart.
 #![tactic(auto)]
 
-// What is passed on of the libraries below.
-pub use c_check_expression;
-pub use c_check_expression::{c_check_type, c_operator};
-
 mod completed;
 mod declarators;
 mod dimensions;

@@ -6,9 +6,9 @@ ghost use Rattle.c_type.specs.Layout.{is_complete, size, offset, members};
 ghost use Rattle.c_type.specs.Trees.{array_of};
 ghost use Rattle.c_check_def.specs.Initialisers.{part_of, part_at, part_offset, part_type, parts_of, takes, is_list_type, character_array, is_character};
 
+use base::NoMemory;
 use c_check_state::MaybeType;
 use c_type::{CType, Scalar, TypeForm, Types, bounded_size, is_complete, offset_of};
-use no_memory::NoMemory;
 use std::alloc::Global;
 
 // The type of the element of this index, if the object has one.

@@ -9,11 +9,10 @@ ghost use Rattle.c_typed.specs.ProgramEncoding.{written_of as written_tree};
 ghost use Rattle.c_check_def.specs.Initialisers.{joined, value_at, initial_of, written_of, written_value};
 ghost use Rattle.c_check_declaration.specs.Pieces.{trees_of, value_or_elements, written_link};
 
-use c_check_expression::c_operator::expr_word;
-use c_lex::Bytes;
+use base::{Bytes, NoMemory};
+use c_operator::expr_word;
 use c_type::{CType, Scalar, TypeForm};
 use c_typed::{Element, ExprForm, Initial, PlaceForm, TExpr, TPlace, Written};
-use no_memory::NoMemory;
 use std::alloc::Global;
 use std::marker::Model;
 

@@ -7,9 +7,9 @@ ghost use Rattle.c_ast.specs.Expressions.{expr_tree};
 ghost use Rattle.c_check_def.specs.Initialisers.{count_in, is_zero, is_zero_list, sets_to_zero};
 
 use crate::parts::is_list_type;
+use base::NoMemory;
 use c_ast::{Expr, Init, Next};
 use c_check_state::MaybeType;
-use no_memory::NoMemory;
 
 // How many initialisers a list has.
 pub(crate) fn count_in(first: &Init, more: &[Next<Init>]) -> Result<u32, NoMemory>

@@ -5,10 +5,9 @@ ghost use Rattle.std.specs.Prelude.{◌≡◌, false, IfOk, OnOk};
 ghost use Rattle.c_ast.specs.Expressions.{expr_tree};
 ghost use Rattle.c_check_declaration.specs.Parts.{text_in, is_list};
 
+use base::{Bytes, NoMemory};
 use c_ast::Expr;
 use c_check_expression::characters;
-use c_lex::Bytes;
-use no_memory::NoMemory;
 use std::alloc::Global;
 
 // The characters of the string literals that an expression is, outside parentheses.

@@ -12,16 +12,14 @@ ghost use Rattle.c_check_state.specs.Frames.{KeepsDeclarations};
 ghost use Rattle.c_check_declaration.specs.Pieces.{if_made};
 
 use crate::pieces::Pieces;
+use base::{Bytes, NoMemory};
 use c_ast::Expr;
-use c_check_def::RefusalKind;
-use c_check_def::c_operator_def::Operand;
-use c_check_expression::c_check_term::{passed, term_constant};
+use c_check_def::{Operand, RefusalKind};
 use c_check_expression::expression;
 use c_check_state::{MaybeType, State, Term};
-use c_lex::Bytes;
+use c_check_term::{passed, term_constant};
 use c_type::TypeForm;
 use c_typed::{ExprForm, PlaceForm, TExpr, TPlace};
-use no_memory::NoMemory;
 
 // Appends the value of an expression, and tells whether no rule is broken within it.
 pub(crate) fn value(

@@ -12,11 +12,10 @@ ghost use Rattle.c_check_declaration.specs.Bounds.{begun_variable};
 use crate::completed::completed;
 use crate::initialisers::initialiser;
 use crate::pieces::Pieces;
+use base::NoMemory;
 use c_ast::{Init, Initializer};
-use c_check_expression::c_check_type::small_if_some;
-use c_check_state::{MaybeType, State};
+use c_check_state::{MaybeType, State, small_if_some};
 use c_typed::Initial;
-use no_memory::NoMemory;
 use std::alloc::Global;
 
 // What a variable in a slot begins with, which completes its type (ISO/IEC 9899:2011, 6.7.9).

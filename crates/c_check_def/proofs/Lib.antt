@@ -1,0 +1,2 @@
+mod examples
+pub mod lemmas

@@ -1,14 +1,14 @@
 -- Calls (ISO/IEC 9899:2011, 6.5.2.2). Three functions are declared before the program begins.
 use Rattle.std.specs.Prelude.{ℕ, zero, suc, ◌&&◌, Bool, true, false, if◌then◌else◌, List, [], ◌∷◌, Option, None, Some, option_map, option_and_then, slice_get}
-use Rattle.c_operator_def.specs.c_type.Trees.{TypeTree, void_type}
-use Rattle.c_operator_def.specs.c_typed.declared.operator.UnaryOp.TheVariants as unary_op
-use Rattle.c_operator_def.specs.c_typed.Typed as typed
-use Rattle.c_operator_def.specs.c_typed.Typed.{ExprTree, expr, FormTree, exprs_of}
-use Rattle.c_operator_def.specs.c_typed.WellTyped.{int}
-use Rattle.c_operator_def.specs.declared.operand.Operand.{Operand}
-use Rattle.c_operator_def.specs.declared.operand.Operand.TheVariants.{Value}
-use Rattle.c_operator_def.specs.Conversions.{converts}
-use Rattle.c_operator_def.specs.Operands.{value_of}
+use Rattle.c_type.specs.Trees.{TypeTree, void_type}
+use Rattle.c_typed.specs.declared.operator.UnaryOp.TheVariants as unary_op
+use Rattle.c_typed.specs.Typed as typed
+use Rattle.c_typed.specs.Typed.{ExprTree, expr, FormTree, exprs_of}
+use Rattle.c_typed.specs.WellTyped.{int}
+use Rattle.c_check_def.specs.declared.operand.Operand.{Operand}
+use Rattle.c_check_def.specs.declared.operand.Operand.TheVariants.{Value}
+use Rattle.c_check_def.specs.Conversions.{converts}
+use Rattle.c_check_def.specs.OperandValues.{value_of}
 use Rattle.c_check_scope.specs.Scopes.{Name}
 use Rattle.c_check_scope.specs.Names.{number_of}
 use Rattle.c_check_def.specs.declared.call.Callee.{Callee}

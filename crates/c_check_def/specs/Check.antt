@@ -2,10 +2,10 @@
 use Rattle.std.specs.Prelude.{ℕ, ◌==◌, ◌&&◌, Bool, false, if◌then◌else◌, List, [], ◌∷◌, map, codes, Option, None, Some, option_and_then, is_some, slice_get, unwrap_or, Result, Ok, Err}
 use Rattle.c_ast.specs.Productions as l
 use Rattle.c_ast.specs.Tree.{Tree, Node, Cons}
-use Rattle.c_operator_def.specs.c_type.Trees.{void_type}
-use Rattle.c_operator_def.specs.c_typed.Typed.{FunctionTree, GlobalTree, ProgramTree}
-use Rattle.c_operator_def.specs.c_typed.WellTyped.{int}
-use Rattle.c_operator_def.specs.Types.{same_type}
+use Rattle.c_type.specs.Trees.{void_type}
+use Rattle.c_typed.specs.Typed.{FunctionTree, GlobalTree, ProgramTree}
+use Rattle.c_typed.specs.WellTyped.{int}
+use Rattle.c_check_def.specs.Types.{same_type}
 use Rattle.c_check_scope.specs.Scopes.{Name, Scope}
 use Rattle.c_check_scope.specs.Names.{number_of, with_name}
 use Rattle.c_check_def.specs.declared.refusal_kind.Broken.{Broken}

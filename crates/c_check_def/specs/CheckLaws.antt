@@ -1,13 +1,13 @@
 -- Laws of the checker.
 use Rattle.std.specs.Prelude.{◌≡◌, ℕ, ◌^◌, ◌<◌, ◌≤◌, All, length, Ok}
-use Rattle.limits.specs.Limits.{most_tokens}
-use Rattle.c_ast.specs.c_lex.declared.token.TokenKind.{TokenKind}
-use Rattle.c_ast.specs.c_lex.declared.token.TokenKind.TheVariants as kind
+use Rattle.base.specs.Limits.{most_tokens}
+use Rattle.c_lex.specs.declared.token.TokenKind.{TokenKind}
+use Rattle.c_lex.specs.declared.token.TokenKind.TheVariants as kind
 use Rattle.c_ast.specs.Shape.{FollowsGrammar}
 use Rattle.c_ast.specs.Spelling.{spell}
 use Rattle.c_ast.specs.Tree.{Tree}
-use Rattle.c_operator_def.specs.c_typed.Typed.{ProgramTree}
-use Rattle.c_operator_def.specs.c_typed.WellTyped.{IsWellTyped}
+use Rattle.c_typed.specs.Typed.{ProgramTree}
+use Rattle.c_typed.specs.WellTyped.{IsWellTyped}
 use Rattle.c_check_def.specs.Check.{check}
 
 -- A token of a source has a word, or bytes.

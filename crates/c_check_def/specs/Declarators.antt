@@ -3,7 +3,7 @@
 use Rattle.std.specs.Prelude.{ℕ, ◌==◌, ◌&&◌, Bool, true, false, List, [], ◌∷◌, ◌++◌, Option, None, Some, option_and_then, slice_get}
 use Rattle.c_ast.specs.Productions as l
 use Rattle.c_ast.specs.Tree.{Tree, Node, Cons}
-use Rattle.c_operator_def.specs.c_typed.Typed.{WrittenTree, DeclarationTree, InitialTree, no_initial, ItemTrees, no_items, stmt_then, declare_then}
+use Rattle.c_typed.specs.Typed.{WrittenTree, DeclarationTree, InitialTree, no_initial, ItemTrees, no_items, stmt_then, declare_then}
 use Rattle.c_check_scope.specs.Scopes.{Name}
 use Rattle.c_check_def.specs.declared.meaning.Meaning.TheVariants as means
 use Rattle.c_check_def.specs.State.{MaybeType, Variable, Elaborated, ◌>>=◌, ◌>>◌, pure, state, if_some, declare, variable_in, change_variable, add_variable, add_global, change_global}

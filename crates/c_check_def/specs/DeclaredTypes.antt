@@ -1,9 +1,9 @@
 -- The types that declarators and type names declare (ISO/IEC 9899:2011, 6.7.6, 6.7.7), and which of them may not be.
 use Rattle.std.specs.Prelude.{ℕ, zero, suc, ◌&&◌, ◌||◌, not, nat_le, Bool, true, false, if◌then◌else◌, List, [], ◌∷◌, Option, None, Some, option_map, option_and_then}
 use Rattle.std.specs.List.{list_any}
-use Rattle.limits.specs.Limits.{most_type_bytes}
-use Rattle.c_operator_def.specs.c_type.Trees.{TypeTree, void_type, pointer_to, array_of, struct_type}
-use Rattle.c_operator_def.specs.c_type.Layout.{Definitions, is_complete, size}
+use Rattle.base.specs.Limits.{most_type_bytes}
+use Rattle.c_type.specs.Trees.{TypeTree, void_type, pointer_to, array_of, struct_type}
+use Rattle.c_type.specs.Layout.{Definitions, is_complete, size}
 use Rattle.c_check_def.specs.declared.dimension.Dimension.{Dimension}
 use Rattle.c_check_def.specs.declared.dimension.Dimension.TheVariants as dimension
 use Rattle.c_check_def.specs.declared.refusal_kind.RefusalKind.TheVariants.{Unknown, BadType}

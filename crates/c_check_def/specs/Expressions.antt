@@ -1,10 +1,10 @@
 -- What an expression is, and the type that a type name names: one recursion, since a dimension is an expression, and a
 -- cast or `sizeof` takes a type name (ISO/IEC 9899:2011, 6.5, 6.7.7).
 use Rattle.std.specs.Prelude.{ℕ, ◌&&◌, nat_le, true, false, if◌then◌else◌, List, [], ◌∷◌, ◌++◌, Option, None, Some, option_map, option_and_then}
-use Rattle.limits.specs.Limits.{most_type_bytes}
+use Rattle.base.specs.Limits.{most_type_bytes}
 use Rattle.c_ast.specs.Productions as l
 use Rattle.c_ast.specs.Tree.{Tree, Node, Nil, Cons}
-use Rattle.c_operator_def.specs.Operands.{operand_type}
+use Rattle.c_check_def.specs.OperandValues.{operand_type}
 use Rattle.c_check_def.specs.declared.refusal_kind.RefusalKind.TheVariants.{NotConstant}
 use Rattle.c_check_def.specs.State.{MaybeType, Elaborated, ◌>>=◌, pure, or_broken, if_some}
 use Rattle.c_check_def.specs.Leaves.{offset_of, begin_of, name_of, selection_op_of, inc_dec_op_of, unary_op_of, binary_op_of, assign_op_of, characters_of, count_of}

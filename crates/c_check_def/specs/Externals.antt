@@ -1,13 +1,13 @@
 -- Declarations at file scope (ISO/IEC 9899:2011, 6.9).
 use Rattle.std.specs.Prelude.{ℕ, suc, ◌==◌, ◌&&◌, ◌||◌, not, nat_le, Bool, true, false, if◌then◌else◌, List, [], ◌∷◌, ◌++◌, map, length, Option, None, Some, option_map, option_and_then, is_some, slice_get, unwrap_or}
 use Rattle.std.specs.List.{list_any}
-use Rattle.limits.specs.Limits.{most_type_bytes}
+use Rattle.base.specs.Limits.{most_type_bytes}
 use Rattle.c_ast.specs.Productions as l
 use Rattle.c_ast.specs.Tree.{Tree, Node, Nil, Cons}
-use Rattle.c_operator_def.specs.c_type.Trees.{TypeTree, void_type}
-use Rattle.c_operator_def.specs.c_type.Layout.{Definition, Definitions, is_defined, struct_size}
-use Rattle.c_operator_def.specs.c_typed.Typed.{VariableTree, FunctionTree, ItemTrees}
-use Rattle.c_operator_def.specs.Types.{is_scalar, same_type}
+use Rattle.c_type.specs.Trees.{TypeTree, void_type}
+use Rattle.c_type.specs.Layout.{Definition, Definitions, is_defined, struct_size}
+use Rattle.c_typed.specs.Typed.{VariableTree, FunctionTree, ItemTrees}
+use Rattle.c_check_def.specs.Types.{is_scalar, same_type}
 use Rattle.c_check_scope.specs.Scopes.{Name, same_name, with_declaration}
 use Rattle.c_check_scope.specs.Tags.{tag_number, with_declared_tag}
 use Rattle.c_check_scope.specs.Members.{with_members}

@@ -1,19 +1,19 @@
 -- Initialisers (ISO/IEC 9899:2011, 6.7.9): the values that are written, each at its offset in the object. An initialiser at
 -- file scope is constant.
 use Rattle.std.specs.Prelude.{ℕ, zero, suc, ◌+◌, ◌*◌, ◌%◌, ◌^◌, ◌==◌, ◌&&◌, ◌||◌, not, nat_le, nat_lt, Bool, true, false, if◌then◌else◌, List, [], ◌∷◌, ◌++◌, length, Option, None, Some, option_map, option_and_then, is_some, slice_get, unwrap_or}
-use Rattle.c_ast.specs.c_lex.declared.token.TokenKind.{TokenKind}
-use Rattle.c_ast.specs.c_lex.declared.token.TokenKind.TheVariants as kind
+use Rattle.c_lex.specs.declared.token.TokenKind.{TokenKind}
+use Rattle.c_lex.specs.declared.token.TokenKind.TheVariants as kind
 use Rattle.c_ast.specs.Productions as l
 use Rattle.c_ast.specs.Tree.{Tree, Leaf, Node, Cons}
-use Rattle.c_operator_def.specs.c_type.declared.scalar.Scalar.{Scalar}
-use Rattle.c_operator_def.specs.c_type.declared.scalar.Scalar.TheVariants.{Char, SignedChar, UnsignedChar}
-use Rattle.c_operator_def.specs.c_type.Trees.{TypeTree, scalar_type, pointer_to, array_of, struct_type}
-use Rattle.c_operator_def.specs.c_type.Layout as layout
-use Rattle.c_operator_def.specs.c_type.Layout.{Definitions, scalar_size}
-use Rattle.c_operator_def.specs.c_typed.Typed.{ExprTree, expr, place, global, address, ElementTrees, no_elements, value_then, characters_then, WrittenTree, word_at, link_at, characters_at, InitialTree, no_initial, initial_value, initial_elements}
-use Rattle.c_operator_def.specs.declared.operand.Operand.{Operand}
-use Rattle.c_operator_def.specs.declared.operand.Operand.TheVariants.{Place, Value}
-use Rattle.c_operator_def.specs.Constants.{expr_word}
+use Rattle.c_type.specs.declared.scalar.Scalar.{Scalar}
+use Rattle.c_type.specs.declared.scalar.Scalar.TheVariants.{Char, SignedChar, UnsignedChar}
+use Rattle.c_type.specs.Trees.{TypeTree, scalar_type, pointer_to, array_of, struct_type}
+use Rattle.c_type.specs.Layout as layout
+use Rattle.c_type.specs.Layout.{Definitions, scalar_size}
+use Rattle.c_typed.specs.Typed.{ExprTree, expr, place, global, address, ElementTrees, no_elements, value_then, characters_then, WrittenTree, word_at, link_at, characters_at, InitialTree, no_initial, initial_value, initial_elements}
+use Rattle.c_check_def.specs.declared.operand.Operand.{Operand}
+use Rattle.c_check_def.specs.declared.operand.Operand.TheVariants.{Place, Value}
+use Rattle.c_check_def.specs.Constants.{expr_word}
 use Rattle.c_check_def.specs.declared.refusal_kind.RefusalKind.TheVariants.{NotConstant, BadInitialiser}
 use Rattle.c_check_def.specs.State.{MaybeType, Global, Elaborated, ◌>>=◌, ◌>>◌, pure, state, breaks_if, broken_at, or_broken, if_some}
 use Rattle.c_check_def.specs.Leaves.{offset_of, begin_of, characters_of}

@@ -1,9 +1,9 @@
 -- What the tokens of a tree say.
 use Rattle.std.specs.Prelude.{ℕ, suc, Bool, true, false, List, [], Option, unwrap_or}
-use Rattle.c_ast.specs.c_lex.declared.punct.Punct.{Punct}
-use Rattle.c_ast.specs.c_lex.declared.punct.Punct.TheVariants.{Semicolon}
-use Rattle.c_ast.specs.c_lex.declared.token.TokenKind.{TokenKind}
-use Rattle.c_ast.specs.c_lex.declared.token.TokenKind.TheVariants as kind
+use Rattle.c_lex.specs.declared.punct.Punct.{Punct}
+use Rattle.c_lex.specs.declared.punct.Punct.TheVariants.{Semicolon}
+use Rattle.c_lex.specs.declared.token.TokenKind.{TokenKind}
+use Rattle.c_lex.specs.declared.token.TokenKind.TheVariants as kind
 use Rattle.c_check_scope.specs.Scopes.{Name}
 use Rattle.c_ast.specs.declared.operator.Selection.{Selection}
 use Rattle.c_ast.specs.declared.operator.IncDec.{IncDec}

@@ -13,7 +13,10 @@ pub mod Externals
 pub mod Limits
 pub mod Check
 pub mod CheckLaws
--- What is passed on of the libraries below.
-pub use Rattle.c_operator_def.specs as c_operator_def
-pub use Rattle.c_operator_def.specs.c_type
-pub use Rattle.c_operator_def.specs.c_typed
+pub mod Types
+pub mod Constants
+pub mod Conversions
+pub mod OperandValues
+pub mod Arithmetic
+pub mod Operators
+pub mod Assignments

@@ -2,9 +2,9 @@
 use Rattle.std.specs.Prelude.{ℕ, ◌+◌, nat_lt, if◌then◌else◌, List, [], ◌∷◌, map, length, Option, None, Some, option_map, slice_get}
 use Rattle.std.specs.List.{sum}
 use Rattle.std.specs.Option.{option_or}
-use Rattle.limits.specs.Limits.{most_functions, most_parameters, most_object_bytes, most_global_bytes, counted_bytes}
-use Rattle.c_operator_def.specs.c_type.Layout.{Definitions, size}
-use Rattle.c_operator_def.specs.c_typed.Typed.{VariableTree, FunctionTree, GlobalTree, ProgramTree}
+use Rattle.base.specs.Limits.{most_functions, most_parameters, most_object_bytes, most_global_bytes, counted_bytes}
+use Rattle.c_type.specs.Layout.{Definitions, size}
+use Rattle.c_typed.specs.Typed.{VariableTree, FunctionTree, GlobalTree, ProgramTree}
 use Rattle.c_check_def.specs.declared.refusal_kind.Quantity.{Quantity}
 use Rattle.c_check_def.specs.declared.refusal_kind.Quantity.TheVariants.{Functions, Parameters, ObjectBytes, GlobalBytes}
 use Rattle.c_check_def.specs.Refusals.{Refusal, above_limit}

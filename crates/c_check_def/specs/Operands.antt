@@ -6,20 +6,20 @@ use Rattle.c_ast.specs.declared.operator.UnaryOp.{UnaryOp}
 use Rattle.c_ast.specs.declared.operator.UnaryOp.TheVariants as unary_operator
 use Rattle.c_ast.specs.declared.operator.BinaryOp.{BinaryOp}
 use Rattle.c_ast.specs.declared.operator.AssignOp.{AssignOp}
-use Rattle.c_ast.specs.c_lex.declared.token.TokenKind.{TokenKind}
-use Rattle.c_ast.specs.c_lex.declared.token.TokenKind.TheVariants as kind
+use Rattle.c_lex.specs.declared.token.TokenKind.{TokenKind}
+use Rattle.c_lex.specs.declared.token.TokenKind.TheVariants as kind
 use Rattle.c_ast.specs.Tree.{Tree, Leaf}
-use Rattle.c_operator_def.specs.c_type.declared.scalar.Scalar.TheVariants as scalar
-use Rattle.c_operator_def.specs.c_type.Trees.{TypeTree, scalar_type, array_of}
-use Rattle.c_operator_def.specs.c_typed.Typed as typed
-use Rattle.c_operator_def.specs.c_typed.Typed.{ExprTree, expr, constant, place, local, global, characters_at, exprs_of}
-use Rattle.c_operator_def.specs.c_typed.WellTyped.{int, if_unsigned, type_of}
-use Rattle.c_operator_def.specs.declared.operand.Operand.{Operand}
-use Rattle.c_operator_def.specs.declared.operand.Operand.TheVariants.{Place, Value}
-use Rattle.c_operator_def.specs.Constants.{constant_value}
-use Rattle.c_operator_def.specs.Operands.{value_of, is_assignable}
-use Rattle.c_operator_def.specs.Operators.{binary_typed, unary_typed, conditional_typed, index_typed, selected_tag, member_typed, cast_typed, size_typed}
-use Rattle.c_operator_def.specs.Assignments.{assigned_typed, step_typed}
+use Rattle.c_type.specs.declared.scalar.Scalar.TheVariants as scalar
+use Rattle.c_type.specs.Trees.{TypeTree, scalar_type, array_of}
+use Rattle.c_typed.specs.Typed as typed
+use Rattle.c_typed.specs.Typed.{ExprTree, expr, constant, place, local, global, characters_at, exprs_of}
+use Rattle.c_typed.specs.WellTyped.{int, if_unsigned, type_of}
+use Rattle.c_check_def.specs.declared.operand.Operand.{Operand}
+use Rattle.c_check_def.specs.declared.operand.Operand.TheVariants.{Place, Value}
+use Rattle.c_check_def.specs.Constants.{constant_value}
+use Rattle.c_check_def.specs.OperandValues.{value_of, is_assignable}
+use Rattle.c_check_def.specs.Operators.{binary_typed, unary_typed, conditional_typed, index_typed, selected_tag, member_typed, cast_typed, size_typed}
+use Rattle.c_check_def.specs.Assignments.{assigned_typed, step_typed}
 use Rattle.c_check_scope.specs.Scopes.{Name}
 use Rattle.c_check_scope.specs.Members.{member_number}
 use Rattle.c_check_def.specs.declared.refusal_kind.RefusalKind.TheVariants.{Unknown, NotAssignable, BadOperands, BadCall}

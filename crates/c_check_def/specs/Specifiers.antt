@@ -1,13 +1,13 @@
 -- Type specifiers (ISO/IEC 9899:2011, 6.7.2).
 use Rattle.std.specs.Prelude.{ℕ, if◌then◌else◌, Option, None, Some}
-use Rattle.c_ast.specs.c_lex.declared.keyword.Keyword.TheVariants as w
-use Rattle.c_ast.specs.c_lex.declared.token.TokenKind.{TokenKind}
-use Rattle.c_ast.specs.c_lex.declared.token.TokenKind.TheVariants as kind
+use Rattle.c_lex.specs.declared.keyword.Keyword.TheVariants as w
+use Rattle.c_lex.specs.declared.token.TokenKind.{TokenKind}
+use Rattle.c_lex.specs.declared.token.TokenKind.TheVariants as kind
 use Rattle.c_ast.specs.Productions as l
 use Rattle.c_ast.specs.Tree.{Tree, Leaf, Node, Cons}
-use Rattle.c_operator_def.specs.c_type.declared.scalar.Scalar.{Scalar}
-use Rattle.c_operator_def.specs.c_type.declared.scalar.Scalar.TheVariants.{Char, SignedChar, UnsignedChar, Short, UnsignedShort, Int, UnsignedInt}
-use Rattle.c_operator_def.specs.c_type.Trees.{TypeTree, void_type, scalar_type, struct_type}
+use Rattle.c_type.specs.declared.scalar.Scalar.{Scalar}
+use Rattle.c_type.specs.declared.scalar.Scalar.TheVariants.{Char, SignedChar, UnsignedChar, Short, UnsignedShort, Int, UnsignedInt}
+use Rattle.c_type.specs.Trees.{TypeTree, void_type, scalar_type, struct_type}
 use Rattle.c_check_scope.specs.Scopes.{Name}
 use Rattle.c_check_def.specs.State.{Elaborated, ◌>>=◌, pure, tag_of, is_tag}
 use Rattle.c_check_def.specs.Leaves.{offset_of, name_of}

@@ -1,8 +1,8 @@
 -- What is known at a point of a program, and the steps that go on from it.
 use Rattle.std.specs.Prelude.{ℕ, Bool, false, List, [], ◌∷◌, ◌++◌, length, slice_get, slice_set, Option, None, Some, is_some, unwrap_or, option_and_then, if◌then◌else◌}
-use Rattle.c_operator_def.specs.c_type.Trees.{TypeTree}
-use Rattle.c_operator_def.specs.c_type.Layout.{Definitions}
-use Rattle.c_operator_def.specs.c_typed.Typed.{WrittenTree, FunctionTree}
+use Rattle.c_type.specs.Trees.{TypeTree}
+use Rattle.c_type.specs.Layout.{Definitions}
+use Rattle.c_typed.specs.Typed.{WrittenTree, FunctionTree}
 use Rattle.c_check_scope.specs.Scopes.{Name, Scopes, meaning, is_declared, with_declaration, outer}
 use Rattle.c_check_scope.specs.Tags.{Tags, tag_number, declared_tag, with_named_tag}
 use Rattle.c_check_scope.specs.Members.{Members}

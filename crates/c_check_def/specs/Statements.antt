@@ -3,13 +3,13 @@ use Rattle.std.specs.Prelude.{ℕ, ◌==◌, Bool, true, false, if◌then◌else
 use Rattle.std.specs.List.{list_any}
 use Rattle.c_ast.specs.Productions as l
 use Rattle.c_ast.specs.Tree.{Tree, Node, Cons}
-use Rattle.c_operator_def.specs.c_typed.Typed as typed
-use Rattle.c_operator_def.specs.c_typed.Typed.{ExprTree, no_expr, StmtTree, ItemTrees, no_items, stmt_then, GroupTrees, no_groups, group_then}
-use Rattle.c_operator_def.specs.c_typed.WellTyped.{type_of}
-use Rattle.c_operator_def.specs.c_typed.StmtViews.{optional_of}
-use Rattle.c_operator_def.specs.declared.operand.Operand.{Operand}
-use Rattle.c_operator_def.specs.Operands.{value_of}
-use Rattle.c_operator_def.specs.Operators.{condition_of, plus_by}
+use Rattle.c_typed.specs.Typed as typed
+use Rattle.c_typed.specs.Typed.{ExprTree, no_expr, StmtTree, ItemTrees, no_items, stmt_then, GroupTrees, no_groups, group_then}
+use Rattle.c_typed.specs.WellTyped.{type_of}
+use Rattle.c_typed.specs.StmtViews.{optional_of}
+use Rattle.c_check_def.specs.declared.operand.Operand.{Operand}
+use Rattle.c_check_def.specs.OperandValues.{value_of}
+use Rattle.c_check_def.specs.Operators.{condition_of, plus_by}
 use Rattle.c_check_def.specs.declared.refusal_kind.RefusalKind.TheVariants.{BadOperands, NotConstant, BadReturn, BadJump, BadLabel}
 use Rattle.c_check_def.specs.State.{MaybeType, Elaborated, ◌>>=◌, ◌>>◌, pure, breaks_if, or_broken, if_some, within_scope}
 use Rattle.c_check_def.specs.Leaves.{offset_of, begin_of}

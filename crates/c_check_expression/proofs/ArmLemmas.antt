@@ -23,7 +23,7 @@ use Rattle.c_ast.specs.Productions as l
 use Rattle.c_ast.specs.Expressions.{expr_tree, type_tree, list_children, list_tree, texts}
 use Rattle.c_ast.proofs.lemmas.ExprViews.{tree-Name, tree-Number, tree-Char, tree-Text, tree-Paren, tree-Increment, tree-Unary, tree-Sizeof, tree-SizeofType, tree-Cast, tree-Index, tree-Call, tree-Select, tree-PostIncrement, tree-Binary, tree-Conditional, tree-Assign}
 use Rattle.c_ast.proofs.lemmas.Operators.{selection_of-mark, inc_dec_of-mark, unary_of-mark, binary_of-mark, assign_of-mark}
-use Rattle.c_check_def.specs.c_operator_def.Operands.{operand_type}
+use Rattle.c_check_def.specs.OperandValues.{operand_type}
 use Rattle.c_check_def.specs.State.{State, after, if_some}
 use Rattle.c_check_def.specs.declared.call.Called.{Called}
 use Rattle.c_check_def.specs.Operands.{Term, named, constant_by, string, indexed, selected, stepped, unary, measured, cast, binary, conditional, assigned}

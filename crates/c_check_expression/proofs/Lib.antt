@@ -1,3 +1,6 @@
+mod LabelLemmas
+mod MoreLemmas
+mod WordLemmas
 pub mod lemmas
 mod LoopLemmas
 mod ShapeLemmas

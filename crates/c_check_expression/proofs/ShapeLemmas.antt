@@ -15,7 +15,7 @@ use Rattle.c_ast.specs.Expressions.{expr_tree, expr_step, dimension_step, list_s
 use Rattle.std.specs.Prelude.{List}
 use Rattle.c_ast.specs.Productions as l
 use Rattle.c_ast.specs.Tree.{Tree, Node, Cons}
-use Rattle.c_check_def.specs.c_operator_def.Operands.{operand_type}
+use Rattle.c_check_def.specs.OperandValues.{operand_type}
 use Rattle.c_check_def.specs.State.{State, after}
 use Rattle.c_check_def.specs.Leaves.{offset_of}
 use Rattle.c_check_def.specs.Operands.{measured}

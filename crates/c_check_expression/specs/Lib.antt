@@ -1,1 +1,3 @@
+pub mod Clauses
+pub mod Labels
 pub mod Called

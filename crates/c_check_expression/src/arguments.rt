@@ -8,9 +8,9 @@ ghost use Rattle.c_check_def.specs.Expressions.{arguments, more_arguments};
 ghost use Rattle.c_check_state.specs.Frames.{KeepsDeclarations};
 
 use crate::expressions::expression;
+use base::NoMemory;
 use c_ast::{Expr, ExprList, Next};
 use c_check_state::{State, Term};
-use no_memory::NoMemory;
 
 // The arguments of a call, if it has any.
 #[cycle(expression)]

@@ -12,11 +12,11 @@ ghost use Rattle.c_check_state.specs.Frames.{KeepsDeclarations};
 
 use crate::arguments::arguments;
 use crate::expressions::expression;
+use base::NoMemory;
 use c_ast::{Expr, ExprList, Identifier, Span};
 use c_check_def::Called;
 use c_check_state::{State, Term};
 use c_check_term::{called, called_name, called_term};
-use no_memory::NoMemory;
 
 // The arguments of a call.
 #[cycle(expression)]

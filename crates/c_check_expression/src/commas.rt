@@ -8,10 +8,10 @@ ghost use Rattle.c_check_def.specs.Expressions.{expressions, more_expressions};
 ghost use Rattle.c_check_state.specs.Frames.{KeepsDeclarations};
 
 use crate::expressions::expression;
+use base::NoMemory;
 use c_ast::{Expr, ExprList, Next};
 use c_check_state::{State, Term};
 use c_check_term::{Sequence, comma, first_of, sequence_term};
-use no_memory::NoMemory;
 
 /// What expressions with commas between them are (ISO/IEC 9899:2011, 6.5.17), or one without.
 #[cycle(expression)]

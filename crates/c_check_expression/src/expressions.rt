@@ -13,10 +13,10 @@ use crate::operators::{
     index_expression, post_increment, select, sizeof_expression, sizeof_type, unary_expression,
 };
 use crate::type_names::type_name;
+use base::NoMemory;
 use c_ast::Expr;
 use c_check_state::{State, Term};
 use c_check_term::{character, named, number};
-use no_memory::NoMemory;
 
 /// What an expression without commas is (ISO/IEC 9899:2011, 6.5).
 #[cycle(expression)]

@@ -6,11 +6,10 @@ ghost use Rattle.c_check_def.specs.Operands.{string};
 ghost use Rattle.c_check_def.specs.Expressions.{more_characters};
 ghost use Rattle.c_check_state.specs.Frames.{KeepsDeclarations};
 
+use base::{Bytes, NoMemory};
 use c_ast::Literal;
 use c_check_state::{State, Term};
 use c_check_term::string;
-use c_lex::Bytes;
-use no_memory::NoMemory;
 use std::alloc::Global;
 
 // Neighbouring string literals, which are one.

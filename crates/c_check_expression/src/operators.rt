@@ -2,7 +2,7 @@
 
 ghost use Rattle.std.specs.Prelude.{◌≡◌, true, false, option_map, IfOk, OnOk};
 ghost use Rattle.c_ast.specs.Expressions.{expr_tree, list_tree, type_tree};
-ghost use Rattle.c_check_def.specs.c_operator_def.Operands.{operand_type};
+ghost use Rattle.c_check_def.specs.OperandValues.{operand_type};
 ghost use Rattle.c_check_def.specs.State.{after};
 ghost use Rattle.c_check_def.specs.Operands.{indexed, selected, stepped, unary, measured, cast, binary, conditional, assigned};
 ghost use Rattle.c_check_def.specs.Expressions.{expression, expressions, type_name};
@@ -11,6 +11,7 @@ ghost use Rattle.c_check_state.specs.Frames.{KeepsDeclarations};
 use crate::commas::comma_expression;
 use crate::expressions::expression;
 use crate::type_names::type_name;
+use base::NoMemory;
 use c_ast::{
     AssignOp, BinaryOp, Expr, ExprList, Identifier, IncDec, Selection, Span, TypeName, UnaryOp,
 };
@@ -19,7 +20,6 @@ use c_check_term::{
     assigned, binary, cast, conditional, indexed, measured_term, measured_type, selected, stepped,
     unary,
 };
-use no_memory::NoMemory;
 
 // The index of an array, or of a pointer.
 #[cycle(expression)]

@@ -10,11 +10,10 @@ ghost use Rattle.c_check_def.specs.State.{after};
 ghost use Rattle.c_check_state.specs.Frames.{KeepsDeclarations};
 
 use crate::expressions::expression;
+use base::NoMemory;
 use c_ast::{Dimension, Span, Spec, TypeName};
-use c_check_state::{MaybeType, State};
+use c_check_state::{MaybeType, State, named_type, specified_type};
 use c_check_term::size;
-use c_check_type::{named_type, specified_type};
-use no_memory::NoMemory;
 
 /// The type that a type name names (ISO/IEC 9899:2011, 6.7.7).
 #[cycle(expression)]

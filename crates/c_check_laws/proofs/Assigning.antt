@@ -11,12 +11,12 @@ use Rattle.c_type.specs.Trees.{TypeTree, scalar_type, pointer_to}
 use Rattle.c_typed.specs.declared.operator.CompoundOp.TheVariants as compound_op
 use Rattle.c_typed.specs.Typed.{ExprTree, expr, assign, PlaceTree}
 use Rattle.c_typed.specs.WellTyped.{Scope, IsInteger, IsScalar, IsPromoted, IsRightOf, if_unsigned, PointsTo, IncDecFits, type_of, place_type, ExprIsTyped, PlaceIsTyped}
-use Rattle.c_operator_def.specs.declared.operand.Operand.{Operand}
-use Rattle.c_operator_def.specs.declared.operand.Operand.TheVariants.{Place, Value}
-use Rattle.c_operator_def.specs.Operands.{value_of, is_assignable}
-use Rattle.c_operator_def.specs.Types.{is_scalar, is_unsigned, are_unsigned, laid_out_size}
-use Rattle.c_operator_def.specs.Conversions.{converted, promoted, converts}
-use Rattle.c_operator_def.specs.Assignments.{target_place, plain_assigned, integers_by, shifted_by, moved, increased_by, decreased_by, place_assigned, assigned_typed, stepped, step_bytes, is_up, place_stepped, step_typed}
+use Rattle.c_check_def.specs.declared.operand.Operand.{Operand}
+use Rattle.c_check_def.specs.declared.operand.Operand.TheVariants.{Place, Value}
+use Rattle.c_check_def.specs.OperandValues.{value_of, is_assignable}
+use Rattle.c_check_def.specs.Types.{is_scalar, is_unsigned, are_unsigned, laid_out_size}
+use Rattle.c_check_def.specs.Conversions.{converted, promoted, converts}
+use Rattle.c_check_def.specs.Assignments.{target_place, plain_assigned, integers_by, shifted_by, moved, increased_by, decreased_by, place_assigned, assigned_typed, stepped, step_bytes, is_up, place_stepped, step_typed}
 use Rattle.c_check_laws.specs.TypedOperands.{IfSome, OperandIsTyped, ObjectsFit}
 use Rattle.c_check_laws.proofs.Options.{and_then_holds, map_holds, if_holds}
 use Rattle.c_check_laws.proofs.Values.{value_typed, scalar_is, unsigned_promoted, promoted_scalar, ValueOf, converted_typed, promoted_typed, converts_typed}

@@ -3,7 +3,7 @@ use Rattle.std.proofs.Common.{◌≡◌, ◌≤◌, ℕ, Bool, true, false, refl
 use Rattle.std.specs.Prelude.{◌<◌, ◌^◌, ◌&&◌, nat_le, Option, None, Some, option_and_then, option_map}
 use Rattle.std.proofs.lemmas.Bool.Decides.{nat_tests}
 use Rattle.std.proofs.lemmas.Bool.{and_parts}
-use Rattle.limits.specs.Limits.{most_type_bytes}
+use Rattle.base.specs.Limits.{most_type_bytes}
 use Rattle.c_ast.specs.declared.operator.BinaryOp.{BinaryOp}
 use Rattle.c_ast.specs.declared.operator.BinaryOp.TheVariants as binary_operator
 use Rattle.val_core.specs.declared.operation.Op2.{Op2}
@@ -15,14 +15,14 @@ use Rattle.c_typed.specs.declared.operator.Relation.TheVariants as relation
 use Rattle.c_typed.specs.declared.operator.BinaryOp.TheVariants as binary_op
 use Rattle.c_typed.specs.Typed.{ExprTree, expr, logical_and, logical_or, conditional}
 use Rattle.c_typed.specs.WellTyped.{Scope, int, IsInteger, IsPromoted, is_shift, Serves, IsRightOf, if_unsigned, PointsTo, IsCompared, IsScalarOrVoid, type_of, ExprIsTyped}
-use Rattle.c_operator_def.specs.declared.operand.Operand.{Operand}
-use Rattle.c_operator_def.specs.Operands.{value_of, if_scalar}
-use Rattle.c_operator_def.specs.Types.{same_type, is_unsigned, are_unsigned, laid_out_size}
-use Rattle.c_operator_def.specs.Constants.{is_null_constant}
-use Rattle.c_operator_def.specs.Conversions.{converted, promoted}
-use Rattle.c_operator_def.specs.Arithmetic.{chosen, two, two_where, arithmetic, integers_by, shifted_by, sum_by, difference_by, ordered_by, equated_by}
-use Rattle.c_operator_def.specs.Operators.{on_values, both, either, values_joined, binary_typed, choice_by, choice_of, condition_of, conditional_typed}
-use Rattle.c_operator_def.proofs.lemmas.SameType.{same_type-true}
+use Rattle.c_check_def.specs.declared.operand.Operand.{Operand}
+use Rattle.c_check_def.specs.OperandValues.{value_of, if_scalar}
+use Rattle.c_check_def.specs.Types.{same_type, is_unsigned, are_unsigned, laid_out_size}
+use Rattle.c_check_def.specs.Constants.{is_null_constant}
+use Rattle.c_check_def.specs.Conversions.{converted, promoted}
+use Rattle.c_check_def.specs.Arithmetic.{chosen, two, two_where, arithmetic, integers_by, shifted_by, sum_by, difference_by, ordered_by, equated_by}
+use Rattle.c_check_def.specs.Operators.{on_values, both, either, values_joined, binary_typed, choice_by, choice_of, condition_of, conditional_typed}
+use Rattle.c_check_def.proofs.lemmas.SameType.{same_type-true}
 use Rattle.c_check_laws.specs.TypedOperands.{IfSome, OperandIsTyped, ObjectsFit}
 use Rattle.c_check_laws.proofs.Options.{and_then_holds, map_holds, if_holds}
 use Rattle.c_check_laws.proofs.Values.{value_typed, unsigned_promoted, promoted_scalar, ScalarValue, scalar_value, converted_typed, promoted_typed}

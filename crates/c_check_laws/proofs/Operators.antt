@@ -11,11 +11,11 @@ use Rattle.c_type.specs.Layout.{is_defined, offset, members}
 use Rattle.c_typed.specs.declared.operator.UnaryOp.TheVariants as unary_op
 use Rattle.c_typed.specs.Typed.{ExprTree, expr, constant, unary, PlaceTree, place, member}
 use Rattle.c_typed.specs.WellTyped.{Scope, int, unsigned_int, IsInteger, IsAddressOf, IsMemberOf, type_of, place_type, ExprIsTyped, PlaceIsTyped}
-use Rattle.c_operator_def.specs.declared.operand.Operand.{Operand}
-use Rattle.c_operator_def.specs.declared.operand.Operand.TheVariants.{Place, Value}
-use Rattle.c_operator_def.specs.Operands.{value_of, if_scalar}
-use Rattle.c_operator_def.specs.Types.{is_unsigned, laid_out_size}
-use Rattle.c_operator_def.specs.Operators.{plus_by, minus_by, complement_by, negation, pointed_by, pointed, value_joined, address_of, unary_typed, has_const_elements, element_by, element, index_typed, selected, member_by, member_of, member_typed, cast_by, cast_typed, size_typed, binary_typed}
+use Rattle.c_check_def.specs.declared.operand.Operand.{Operand}
+use Rattle.c_check_def.specs.declared.operand.Operand.TheVariants.{Place, Value}
+use Rattle.c_check_def.specs.OperandValues.{value_of, if_scalar}
+use Rattle.c_check_def.specs.Types.{is_unsigned, laid_out_size}
+use Rattle.c_check_def.specs.Operators.{plus_by, minus_by, complement_by, negation, pointed_by, pointed, value_joined, address_of, unary_typed, has_const_elements, element_by, element, index_typed, selected, member_by, member_of, member_typed, cast_by, cast_typed, size_typed, binary_typed}
 use Rattle.c_check_laws.specs.TypedOperands.{IfSome, OperandIsTyped, ObjectsFit, MayBeTaken}
 use Rattle.c_check_laws.proofs.Options.{and_then_holds, map_holds, if_holds}
 use Rattle.c_check_laws.proofs.Values.{value_typed, unsigned_promoted, ScalarValue, scalar_value, converted_typed, promoted_typed}

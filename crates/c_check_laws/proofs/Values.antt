@@ -7,12 +7,12 @@ use Rattle.c_type.specs.Trees.{TypeTree, void_type, scalar_type, pointer_to, arr
 use Rattle.c_typed.specs.declared.operator.UnaryOp.TheVariants as unary_op
 use Rattle.c_typed.specs.Typed.{ExprTree, expr, unary, PlaceTree, place, local, global, at, member}
 use Rattle.c_typed.specs.WellTyped.{Scope, IsInteger, IsScalar, IsPromoted, if_unsigned, HasAddress, IsMemberOf, type_of, place_type, ExprIsTyped, PlaceIsTyped}
-use Rattle.c_operator_def.specs.declared.operand.Operand.{Operand}
-use Rattle.c_operator_def.specs.declared.operand.Operand.TheVariants.{Place, Value}
-use Rattle.c_operator_def.specs.Operands.{place_value, value_of, if_scalar}
-use Rattle.c_operator_def.specs.Types.{is_scalar, same_type, is_unsigned, promoted_type}
-use Rattle.c_operator_def.specs.Conversions.{converted, promoted, may_convert, converts}
-use Rattle.c_operator_def.proofs.lemmas.SameType.{same_type-refl, same_type-true}
+use Rattle.c_check_def.specs.declared.operand.Operand.{Operand}
+use Rattle.c_check_def.specs.declared.operand.Operand.TheVariants.{Place, Value}
+use Rattle.c_check_def.specs.OperandValues.{place_value, value_of, if_scalar}
+use Rattle.c_check_def.specs.Types.{is_scalar, same_type, is_unsigned, promoted_type}
+use Rattle.c_check_def.specs.Conversions.{converted, promoted, may_convert, converts}
+use Rattle.c_check_def.proofs.lemmas.SameType.{same_type-refl, same_type-true}
 use Rattle.c_check_laws.specs.TypedOperands.{IfSome, OperandIsTyped, ObjectsFit}
 use Rattle.c_check_laws.proofs.Options.{if_holds}
 

@@ -1,2 +1,4 @@
 pub mod TypedOperands
 pub mod OperatorLaws
+pub mod NamesLaws
+pub mod PlaceLaws

@@ -9,11 +9,11 @@ use Rattle.c_ast.specs.declared.operator.AssignOp.{AssignOp}
 use Rattle.c_type.specs.Trees.{TypeTree}
 use Rattle.c_typed.specs.Typed.{ExprTree}
 use Rattle.c_typed.specs.WellTyped.{Scope, ExprIsTyped, type_of}
-use Rattle.c_operator_def.specs.declared.operand.Operand.{Operand}
-use Rattle.c_operator_def.specs.Operands.{value_of}
-use Rattle.c_operator_def.specs.Conversions.{converts}
-use Rattle.c_operator_def.specs.Operators.{binary_typed, unary_typed, conditional_typed, index_typed, member_typed, cast_typed, size_typed}
-use Rattle.c_operator_def.specs.Assignments.{assigned_typed, step_typed}
+use Rattle.c_check_def.specs.declared.operand.Operand.{Operand}
+use Rattle.c_check_def.specs.OperandValues.{value_of}
+use Rattle.c_check_def.specs.Conversions.{converts}
+use Rattle.c_check_def.specs.Operators.{binary_typed, unary_typed, conditional_typed, index_typed, member_typed, cast_typed, size_typed}
+use Rattle.c_check_def.specs.Assignments.{assigned_typed, step_typed}
 use Rattle.c_check_laws.specs.TypedOperands.{IfSome, OperandIsTyped, ObjectsFit, MayBeTaken}
 
 -- The value of an operand, and a value that is converted to a type.

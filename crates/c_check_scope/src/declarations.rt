@@ -5,9 +5,8 @@ ghost use Rattle.std.specs.Map.{lookup};
 ghost use Rattle.indexmap.specs.IndexMap.{get, Updates, IsUnchanged};
 ghost use Rattle.c_check_scope.specs.Scopes.{same_name};
 
-use c_lex::Name;
+use base::{Name, NoMemory};
 use indexmap::IndexMap;
-use no_memory::NoMemory;
 use std::alloc::Global;
 use std::marker::Model;
 

@@ -5,9 +5,6 @@
 //! Always: a name means what its innermost declaration says.
 #![tactic(auto)]
 
-// What is passed on of the libraries below.
-pub use c_lex;
-
 mod declarations;
 pub mod laws;
 mod members;

@@ -4,9 +4,8 @@ ghost use Rattle.std.specs.Prelude.{◌≡◌, [], OnOk, OnErr};
 ghost use Rattle.c_check_scope.specs.Members.{member_number, with_members};
 
 use crate::names::Names;
-use c_lex::Name;
+use base::{Name, NoMemory};
 use indexmap::IndexMap;
-use no_memory::NoMemory;
 use std::alloc::Global;
 use std::marker::Model;
 

@@ -3,9 +3,8 @@
 ghost use Rattle.std.specs.Prelude.{◌≡◌, [], not, OnOk, OnErr, IfOk};
 ghost use Rattle.c_check_scope.specs.Names.{has_name, number_of, with_name};
 
-use c_lex::Name;
+use base::{Name, NoMemory};
 use indexmap::IndexSet;
-use no_memory::NoMemory;
 use std::alloc::Global;
 use std::marker::Model;
 

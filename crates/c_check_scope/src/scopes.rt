@@ -4,8 +4,7 @@ ghost use Rattle.std.specs.Prelude.{◌≡◌, [], ◌∷◌, not, OnOk, OnErr, 
 ghost use Rattle.c_check_scope.specs.Scopes.{meaning, is_declared, with_declaration, outer};
 
 use crate::declarations::Declarations;
-use c_lex::Name;
-use no_memory::NoMemory;
+use base::{Name, NoMemory};
 use std::alloc::Global;
 use std::marker::Model;
 

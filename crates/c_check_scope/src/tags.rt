@@ -5,9 +5,8 @@ ghost use Rattle.indexmap.specs.IndexMap.{insert_entry};
 ghost use Rattle.c_check_scope.specs.Scopes.{same_name};
 ghost use Rattle.c_check_scope.specs.Tags.{tag_number, declared_tag, with_named_tag, with_declared_tag};
 
-use c_lex::Name;
+use base::{Name, NoMemory};
 use indexmap::IndexMap;
-use no_memory::NoMemory;
 use std::alloc::Global;
 use std::marker::Model;
 

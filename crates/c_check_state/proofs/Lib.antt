@@ -1,1 +1,2 @@
 mod TagLemmas
+pub mod TypeLemmas

@@ -2,14 +2,14 @@
 use Rattle.std.specs.Prelude.{◌≡◌, ℕ, ◌⊎◌, Bool, List, Option, refl}
 use mathlib.Core.Logic.{inl, inr}
 use Rattle.std.specs.Coded.{Coded, code_by, coded×, coded⊎, coded_ℕ, coded_bool, coded_list, coded_option}
-use Rattle.c_check_def.specs.c_type.TreeEncoding.{coded_tree}
-use Rattle.c_check_def.specs.c_type.Layout.{Definitions}
-use Rattle.c_check_def.specs.c_type.DefinitionEncoding.{coded_definitions}
-use Rattle.c_check_def.specs.c_typed.Typed.{ExprTree, PlaceTree, WrittenTree, FunctionTree}
-use Rattle.c_check_def.specs.c_typed.ExprEncoding.{coded_expr, coded_place}
-use Rattle.c_check_def.specs.c_typed.ProgramEncoding.{coded_written, coded_function}
-use Rattle.c_check_def.specs.c_operator_def.declared.operand.Operand.{Operand}
-use Rattle.c_check_def.specs.c_operator_def.declared.operand.Operand.TheVariants.{Place, Value}
+use Rattle.c_type.specs.TreeEncoding.{coded_tree}
+use Rattle.c_type.specs.Layout.{Definitions}
+use Rattle.c_type.specs.DefinitionEncoding.{coded_definitions}
+use Rattle.c_typed.specs.Typed.{ExprTree, PlaceTree, WrittenTree, FunctionTree}
+use Rattle.c_typed.specs.ExprEncoding.{coded_expr, coded_place}
+use Rattle.c_typed.specs.ProgramEncoding.{coded_written, coded_function}
+use Rattle.c_check_def.specs.declared.operand.Operand.{Operand}
+use Rattle.c_check_def.specs.declared.operand.Operand.TheVariants.{Place, Value}
 use Rattle.c_check_scope.specs.Scopes.{Name, Scopes}
 use Rattle.c_check_scope.specs.Tags.{Tags}
 use Rattle.c_check_scope.specs.Members.{Members}

@@ -8,10 +8,9 @@ ghost use Rattle.c_check_def.specs.State.{changed};
 
 use crate::declared::Declared;
 use crate::state::State;
+use base::{Name, NoMemory};
 use c_check_def::Meaning;
-use c_check_def::c_typed::TFunction;
-use c_check_scope::c_lex::Name;
-use no_memory::NoMemory;
+use c_typed::TFunction;
 
 impl State {
     /// The declared function of this number, if there is one.

@@ -2,13 +2,13 @@
 
 ghost use Rattle.std.specs.Prelude.{◌≡◌, IfOk, OnOk, slice_get, map};
 ghost use Rattle.std.specs.Option.{option_copied};
-ghost use Rattle.c_check_def.specs.c_typed.ProgramEncoding.{written_of};
+ghost use Rattle.c_typed.specs.ProgramEncoding.{written_of};
 ghost use Rattle.c_check_def.specs.State.{global_type, add_global, change_global};
 
 use crate::maybe_type::MaybeType;
 use crate::state::State;
-use c_check_def::c_typed::Written;
-use no_memory::NoMemory;
+use base::NoMemory;
+use c_typed::Written;
 use std::marker::Model;
 
 /// A variable at file scope or a string literal (ISO/IEC 9899:2011, 6.2.4p3, 6.4.5p6): the offset
@@ -32,7 +32,7 @@ impl Model for GlobalObject {
     ghost coded = { coded_global };
 
     ghost use Rattle.std.specs.Prelude.{map};
-    ghost use Rattle.c_check_def.specs.c_typed.ProgramEncoding.{written_of};
+    ghost use Rattle.c_typed.specs.ProgramEncoding.{written_of};
 
     ghost view = { λ g. record {
       offset = g.offset;

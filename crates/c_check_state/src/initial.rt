@@ -1,18 +1,17 @@
 //! The state at the beginning of a file.
 
 ghost use Rattle.std.specs.Prelude.{◌≡◌, ◌∷◌, [], codes, true, Some, IfOk};
-ghost use Rattle.c_check_def.specs.c_typed.WellTyped.{int};
+ghost use Rattle.c_typed.specs.WellTyped.{int};
 ghost use Rattle.c_check_def.specs.Calls.{predeclared};
 ghost use Rattle.c_check_def.specs.Check.{predeclared_names, initial_state};
 
 use crate::declared::Declared;
 use crate::maybe_type::MaybeType;
 use crate::state::State;
+use base::{Name, NoMemory};
 use c_check_def::Meaning;
-use c_check_def::c_type::{CType, Scalar, Types};
-use c_check_scope::c_lex::Name;
 use c_check_scope::{Members, Names, Scopes, Tags};
-use no_memory::NoMemory;
+use c_type::{CType, Scalar, Types};
 use std::alloc::Global;
 
 impl State {

@@ -2,8 +2,8 @@
 
 ghost use Rattle.std.specs.Prelude.{◌≡◌, None, Some, IfOk, MatchOption};
 
-use c_check_def::c_type::CType;
-use no_memory::NoMemory;
+use base::NoMemory;
+use c_type::CType;
 use std::alloc::Global;
 use std::marker::Model;
 use std::sync::Arc;

@@ -7,9 +7,8 @@ ghost use Rattle.c_check_def.specs.State.{meaning_of, declare, tag_of, is_tag};
 ghost use Rattle.c_check_def.specs.Externals.{bind, declare_tag};
 
 use crate::state::State;
+use base::{Name, NoMemory};
 use c_check_def::{Meaning, RefusalKind};
-use c_check_scope::c_lex::Name;
-use no_memory::NoMemory;
 
 impl State {
     /// What a name means here (ISO/IEC 9899:2011, 6.2.1p4).

@@ -1,16 +1,15 @@
 //! The typed program that a state holds at the end of the file.
 
 ghost use Rattle.std.specs.Prelude.{◌≡◌, map, unwrap_or, IfOk};
-ghost use Rattle.c_check_def.specs.c_type.Trees.{void_type};
+ghost use Rattle.c_type.specs.Trees.{void_type};
 ghost use Rattle.c_check_def.specs.Check.{global_tree, main_number, program_of};
 
 use crate::globals::GlobalObject;
 use crate::maybe_type::MaybeType;
 use crate::state::State;
-use c_check_def::c_type::CType;
-use c_check_def::c_typed::{TFunction, TGlobal, Typed};
-use c_check_scope::c_lex::Name;
-use no_memory::NoMemory;
+use base::{Name, NoMemory};
+use c_type::CType;
+use c_typed::{TFunction, TGlobal, Typed};
 use std::alloc::Global;
 use std::sync::Arc;
 

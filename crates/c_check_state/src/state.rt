@@ -7,10 +7,10 @@ ghost use Rattle.c_check_def.specs.State.{breaks, breaks_if};
 use crate::declared::Declared;
 use crate::globals::GlobalObject;
 use crate::variables::Variable;
-use c_check_def::c_type::Types;
-use c_check_def::c_typed::TFunction;
 use c_check_def::{Broken, Meaning, RefusalKind};
 use c_check_scope::{Members, Names, Scopes, Tags};
+use c_type::Types;
+use c_typed::TFunction;
 use std::alloc::Global;
 use std::marker::Model;
 

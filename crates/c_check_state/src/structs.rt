@@ -1,16 +1,15 @@
 //! The steps that look up and define structs.
 
 ghost use Rattle.std.specs.Prelude.{◌≡◌, ◌∷◌, ◌<◌, false, not, length, IfOk, if◌then◌else◌};
-ghost use Rattle.c_check_def.specs.c_type.Layout.{is_defined};
-ghost use Rattle.c_check_def.specs.c_type.WellDefined.{AreLaidOut};
+ghost use Rattle.c_type.specs.Layout.{is_defined};
+ghost use Rattle.c_type.specs.WellDefined.{AreLaidOut};
 ghost use Rattle.c_check_scope.specs.Members.{member_number, with_members};
 ghost use Rattle.c_check_def.specs.Externals.{is_large_struct};
 
 use crate::state::State;
-use c_check_def::c_type::{CType, DefineFault, Types};
+use base::{Name, NoMemory};
 use c_check_scope::Names;
-use c_check_scope::c_lex::Name;
-use no_memory::NoMemory;
+use c_type::{CType, DefineFault, Types};
 
 impl State {
     /// The definitions of structs so far.

@@ -2,8 +2,8 @@
 
 ghost use Rattle.std.specs.Prelude.{◌≡◌, None, Some, IfOk};
 
-use c_check_def::c_operator_def::Operand;
-use no_memory::NoMemory;
+use base::NoMemory;
+use c_check_def::Operand;
 use std::alloc::Global;
 use std::marker::Model;
 

@@ -5,7 +5,7 @@ ghost use Rattle.c_check_def.specs.State.{variable_in, variable_type, add_variab
 
 use crate::maybe_type::MaybeType;
 use crate::state::State;
-use no_memory::NoMemory;
+use base::NoMemory;
 use std::marker::Model;
 
 /// A variable of a function: its type, none where it breaks a rule, whether its address is taken,

@@ -6,15 +6,15 @@ use Rattle.c_ast.specs.declared.statement.Stmt.{Stmt}
 use Rattle.c_ast.specs.Productions as l
 use Rattle.c_ast.specs.Statements.{stmt_tree, item_tree, items_tree, stmts_tree, group_tree, groups_tree}
 use Rattle.c_ast.proofs.lemmas.Lists.{many-none}
-use Rattle.c_check_declaration.proofs.of_c_check_expression.lemmas.Lists.{many_next}
+use Rattle.c_check_expression.proofs.lemmas.Lists.{many_next}
 use Rattle.c_typed.specs.Typed.{ItemTrees, GroupTrees, no_items, no_groups, stmt_then}
 use Rattle.c_check_def.specs.State.{State, after}
 use Rattle.c_check_def.specs.Declarators.{items_joined}
 use Rattle.c_check_def.specs.Statements.{Jumps, Labels, Groups, no_labels, next_group, statement, items, groups, group}
 use Rattle.c_check_declaration.proofs.lemmas.Declarations.{items-none, items-more, items-joined}
-use Rattle.c_check_arm.specs.Parts.{item}
-use Rattle.c_check_arm.proofs.lemmas.Arms.{item_statement}
-use Rattle.c_check_arm.proofs.lemmas.Items.{item-next, group-next}
+use Rattle.c_check_statement.specs.Parts.{item}
+use Rattle.c_check_statement.proofs.lemmas.Arms.{item_statement}
+use Rattle.c_check_statement.proofs.lemmas.Items.{item-next, group-next}
 
 -- ---- items
 

@@ -6,19 +6,19 @@ ghost use Rattle.c_typed.specs.Typed.{stmt_then, no_items};
 ghost use Rattle.c_typed.specs.StmtViews.{items_of};
 ghost use Rattle.c_check_def.specs.Declarators.{items_joined};
 ghost use Rattle.c_check_def.specs.Statements.{statement, items};
-ghost use Rattle.c_check_arm.specs.Parts.{jumps_of, item};
+ghost use Rattle.c_check_statement.specs.Parts.{jumps_of, item};
 
+use crate::Jumps;
 use crate::statements::statement;
+use base::NoMemory;
 use c_ast::{Block, BlockItem, Stmt};
-use c_check_arm::Jumps;
 use c_check_declaration::locals;
 use c_check_state::{MaybeType, State};
 use c_typed::{Item, StmtForm, TStmt};
-use no_memory::NoMemory;
 
 /// A compound statement, which is a scope (ISO/IEC 9899:2011, 6.8.2).
 #[cycle(statement)]
-#[tactic(auto, using(c_check_arm::proofs::lemmas::Slots::items_leave), unfolding(c_ast::specs::Statements::block_tree))]
+#[tactic(auto, using(crate::proofs::lemmas::Slots::items_leave), unfolding(c_ast::specs::Statements::block_tree))]
 pub(crate) fn block(
     x: &Block,
     state: &mut State,
@@ -61,7 +61,7 @@ pub fn items(
 }
 
 #[cycle(statement)]
-#[tactic(auto, using(c_check_arm::proofs::lemmas::Arms::item_arms))]
+#[tactic(auto, using(crate::proofs::lemmas::Arms::item_arms))]
 fn item(
     x: &BlockItem,
     state: &mut State,

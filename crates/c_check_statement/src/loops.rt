@@ -5,16 +5,16 @@ ghost use Rattle.c_ast.specs.Expressions.{list_tree};
 ghost use Rattle.c_ast.specs.Statements.{clause, start_tree, stmt_tree};
 ghost use Rattle.c_typed.specs.StmtViews.{items_of};
 ghost use Rattle.c_check_def.specs.Statements.{statement, for_start};
-ghost use Rattle.c_check_arm.specs.Parts.{jumps_of, loop, while_statement, do_statement, for_loop, for_items, for_block};
+ghost use Rattle.c_check_statement.specs.Parts.{jumps_of, loop, while_statement, do_statement, for_loop, for_items, for_block};
 
 use crate::statements::statement;
+use crate::{IN_LOOP, do_stmt, value_items};
+use base::NoMemory;
 use c_ast::{ExprList, ForClauses, ForStart, Stmt};
-use c_check_arm::c_check_clause::{condition_at, condition_clause, value_clause};
-use c_check_arm::{IN_LOOP, do_stmt, value_items};
 use c_check_declaration::locals;
+use c_check_expression::{condition_at, condition_clause, value_clause};
 use c_check_state::{MaybeType, State};
 use c_typed::{Item, StmtForm, TExpr, TStmt};
-use no_memory::NoMemory;
 
 /// A `while` at an offset (ISO/IEC 9899:2011, 6.8.5.1).
 #[cycle(statement)]
@@ -97,7 +97,7 @@ pub(crate) fn do_statement(
 
 /// A `for` at an offset (6.8.5.3), which is a block.
 #[cycle(statement)]
-#[tactic(auto, using(c_check_arm::proofs::lemmas::Slots::for_leave))]
+#[tactic(auto, using(crate::proofs::lemmas::Slots::for_leave))]
 pub(crate) fn for_statement(
     x: &Stmt,
     state: &mut State,

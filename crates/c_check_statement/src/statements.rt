@@ -4,22 +4,22 @@ ghost use Rattle.std.specs.Prelude.{◌≡◌, IfOk, OnOk};
 ghost use Rattle.c_ast.specs.Expressions.{list_tree};
 ghost use Rattle.c_ast.specs.Statements.{stmt_tree};
 ghost use Rattle.c_check_def.specs.Statements.{statement};
-ghost use Rattle.c_check_arm.specs.Parts.{jumps_of, if_statement, else_statement};
+ghost use Rattle.c_check_statement.specs.Parts.{jumps_of, if_statement, else_statement};
 
 use crate::blocks::block;
 use crate::loops::{do_statement, for_statement, while_statement};
 use crate::switches::switch_statement;
+use crate::{Jumps, if_stmt, with_else};
+use base::NoMemory;
 use c_ast::{ExprList, Stmt};
-use c_check_arm::c_check_clause::{condition_at, jump, returned, value_statement};
-use c_check_arm::{Jumps, if_stmt, with_else};
+use c_check_expression::{condition_at, jump, returned, value_statement};
 use c_check_state::{MaybeType, State};
 use c_typed::{StmtForm, TStmt};
-use no_memory::NoMemory;
 
 /// What a statement is, in a function with a result of the type that it gives (ISO/IEC 9899:2011,
 /// 6.8).
 #[cycle(statement)]
-#[tactic(auto, using(c_check_arm::proofs::lemmas::Arms::arms))]
+#[tactic(auto, using(crate::proofs::lemmas::Arms::arms))]
 pub(crate) fn statement(
     x: &Stmt,
     state: &mut State,

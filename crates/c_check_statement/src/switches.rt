@@ -5,15 +5,15 @@ ghost use Rattle.c_ast.specs.Expressions.{list_tree};
 ghost use Rattle.c_ast.specs.Statements.{stmt_tree, stmts_tree, group_tree, groups_tree};
 ghost use Rattle.c_typed.specs.StmtViews.{items_of, groups_of};
 ghost use Rattle.c_check_def.specs.Statements.{next_group, groups, group};
-ghost use Rattle.c_check_arm.specs.Parts.{jumps_of, switch_statement, group_items};
+ghost use Rattle.c_check_statement.specs.Parts.{jumps_of, switch_statement, group_items};
 
 use crate::blocks::{statement_item, statements};
+use crate::{Jumps, add_group, switch_stmt};
+use base::NoMemory;
 use c_ast::{Group, Subject};
-use c_check_arm::c_check_clause::{Labels, group_labels, subject_at};
-use c_check_arm::{Jumps, add_group, switch_stmt};
+use c_check_expression::{Labels, group_labels, subject_at};
 use c_check_state::{MaybeType, State};
 use c_typed::{Group as TGroup, Item, TStmt};
-use no_memory::NoMemory;
 
 /// A `switch` at an offset (ISO/IEC 9899:2011, 6.8.4.2).
 #[cycle(statement)]

@@ -3,7 +3,7 @@ use Rattle.std.specs.Prelude.{List, refl}
 use Rattle.std.specs.Coded.{Coded, code_by, coded×, coded_list}
 use Rattle.c_typed.specs.Typed.{ExprTree}
 use Rattle.c_typed.specs.ExprEncoding.{coded_expr}
-use Rattle.c_operator_def.specs.declared.operand.Operand.{Operand}
+use Rattle.c_check_def.specs.declared.operand.Operand.{Operand}
 use Rattle.c_check_state.specs.Codes.{coded_operand}
 use Rattle.c_check_def.specs.Operands.{Sequence}
 

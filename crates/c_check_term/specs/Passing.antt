@@ -3,7 +3,7 @@ use Rattle.std.specs.Prelude.{ℕ, Bool, true, false, List, [], ◌∷◌, ◌++
 use Rattle.std.specs.declared.vec.Vec.{Vec}
 use Rattle.c_typed.specs.declared.operator.UnaryOp.{UnaryOp}
 use Rattle.c_typed.specs.Typed.{ExprTree, expr, FormTree, unary, get}
-use Rattle.c_operator_def.specs.declared.operand.Operand.TheVariants.{Value}
+use Rattle.c_check_def.specs.declared.operand.Operand.TheVariants.{Value}
 use Rattle.c_check_term.specs.declared.arguments.Passing.{Passing}
 use Rattle.c_check_term.specs.declared.arguments.Passing.TheVariants as passing
 use Rattle.c_check_def.specs.declared.call.Callee.{Callee}

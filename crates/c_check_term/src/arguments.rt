@@ -4,11 +4,11 @@ ghost use Rattle.std.specs.Prelude.{◌≡◌, Some, length, IfOk, ◌&&◌};
 ghost use Rattle.c_check_def.specs.Calls.{passed, all_fit, all_passed, fits, passed_as};
 ghost use Rattle.c_check_term.specs.Passing.{is_fit, expr_in, exprs_in, one_more};
 
+use base::NoMemory;
+use c_check_def::Operand;
 use c_check_state::{MaybeType, Term};
-use c_operator_def::Operand;
 use c_type::CType;
 use c_typed::TExpr;
-use no_memory::NoMemory;
 use std::alloc::Global;
 use std::sync::Arc;
 

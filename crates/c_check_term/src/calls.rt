@@ -8,12 +8,10 @@ ghost use Rattle.c_check_state.specs.Frames.{KeepsDeclarations};
 
 use crate::arguments::pass_all;
 use crate::names::term_meant;
-use c_check_def::{Called, Callee, Meaning, RefusalKind};
+use base::{Name, NoMemory};
+use c_check_def::{Called, Callee, Meaning, Operand, RefusalKind};
 use c_check_state::{Declared, MaybeType, State, Term};
-use c_lex::Name;
-use c_operator_def::Operand;
 use c_typed::{ExprForm, TExpr, UnaryOp};
-use no_memory::NoMemory;
 use std::alloc::Global;
 use std::sync::Arc;
 

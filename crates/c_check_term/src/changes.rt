@@ -1,18 +1,17 @@
 //! What assignments, `++` and `--` make of terms.
 
 ghost use Rattle.std.specs.Prelude.{◌≡◌, Some, IfOk, OnOk};
-ghost use Rattle.c_operator_def.specs.Assignments.{assigned_typed, step_typed};
+ghost use Rattle.c_check_def.specs.Assignments.{assigned_typed, step_typed};
 ghost use Rattle.c_check_def.specs.declared.refusal_kind.RefusalKind.TheVariants.{BadOperands};
 ghost use Rattle.c_check_def.specs.State.{or_broken};
 ghost use Rattle.c_check_def.specs.Operands.{term_of, target, stepped, assigned};
 ghost use Rattle.c_check_state.specs.Frames.{KeepsDeclarations};
 
 use crate::outcomes::value_or_broken;
+use base::NoMemory;
 use c_ast::{AssignOp, IncDec};
-use c_check_def::RefusalKind;
+use c_check_def::{Operand, RefusalKind};
 use c_check_state::{State, Term};
-use c_operator_def::Operand;
-use no_memory::NoMemory;
 
 // The target of an operator at an offset, where it may be assigned.
 fn target(state: &mut State, offset: u32, a: Term) -> Term

@@ -1,17 +1,16 @@
 //! What comma operators make of terms.
 
 ghost use Rattle.std.specs.Prelude.{◌≡◌, ◌≢◌, ◌∷◌, ◌++◌, [], None, Some, IfOk, OnOk, MatchOption, option_map};
-ghost use Rattle.c_operator_def.specs.Operands.{value_of};
+ghost use Rattle.c_check_def.specs.OperandValues.{value_of};
 ghost use Rattle.c_check_def.specs.declared.refusal_kind.RefusalKind.TheVariants.{BadOperands};
 ghost use Rattle.c_check_def.specs.State.{or_broken};
 ghost use Rattle.c_check_def.specs.Operands.{comma, first_of, followed_by, sequence_term, sequence_value};
 ghost use Rattle.c_check_state.specs.Frames.{KeepsDeclarations};
 
-use c_check_def::RefusalKind;
+use base::NoMemory;
+use c_check_def::{Operand, RefusalKind};
 use c_check_state::{State, Term};
-use c_operator_def::Operand;
 use c_typed::TExpr;
-use no_memory::NoMemory;
 use std::alloc::Global;
 use std::marker::Model;
 

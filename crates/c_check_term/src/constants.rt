@@ -9,12 +9,11 @@ ghost use Rattle.c_check_def.specs.Operands.{constant_by, string, string_type};
 ghost use Rattle.c_check_state.specs.Frames.{KeepsDeclarations};
 
 use crate::names::global;
+use base::{Bytes, NoMemory};
+use c_check_def::Operand;
 use c_check_state::{GlobalObject, MaybeType, State, Term};
-use c_lex::Bytes;
-use c_operator_def::Operand;
 use c_type::{CType, Scalar};
 use c_typed::{ExprForm, TExpr, Written};
-use no_memory::NoMemory;
 use std::alloc::Global;
 use std::sync::Arc;
 

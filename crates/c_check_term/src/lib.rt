@@ -3,9 +3,6 @@
 //! Always: no struct is defined and no variable added.
 #![tactic(auto)]
 
-// What is passed on of the libraries below.
-pub use c_operator;
-
 mod arguments;
 mod calls;
 mod changes;

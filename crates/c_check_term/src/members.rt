@@ -5,12 +5,10 @@ ghost use Rattle.c_check_def.specs.Operands.{selected, member_named, member_numb
 ghost use Rattle.c_check_state.specs.Frames.{KeepsDeclarations};
 
 use crate::outcomes::or_broken;
+use base::{Name, NoMemory};
 use c_ast::Selection;
-use c_check_def::RefusalKind;
+use c_check_def::{Operand, RefusalKind};
 use c_check_state::{State, Term};
-use c_lex::Name;
-use c_operator_def::Operand;
-use no_memory::NoMemory;
 
 /// The member that `.` or `->` at an offset names, the name being at an offset of its own
 /// (ISO/IEC 9899:2011, 6.5.2.3).

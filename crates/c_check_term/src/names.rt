@@ -5,12 +5,10 @@ ghost use Rattle.c_typed.specs.Typed.{place, local, global};
 ghost use Rattle.c_check_def.specs.Operands.{named, term_meant, variable_named, global_named};
 ghost use Rattle.c_check_state.specs.Frames.{KeepsDeclarations};
 
-use c_check_def::{Meaning, RefusalKind};
+use base::{Name, NoMemory};
+use c_check_def::{Meaning, Operand, RefusalKind};
 use c_check_state::{MaybeType, State, Term};
-use c_lex::Name;
-use c_operator_def::Operand;
 use c_typed::{PlaceForm, TPlace};
-use no_memory::NoMemory;
 use std::alloc::Global;
 
 /// What a name at an offset is as an expression (ISO/IEC 9899:2011, 6.5.1): a variable. A

@@ -1,20 +1,19 @@
 //! What binary operators, `?:`, subscripts and casts make of terms.
 
 ghost use Rattle.std.specs.Prelude.{◌≡◌, IfOk, OnOk, option_map};
-ghost use Rattle.c_operator_def.specs.Operands.{operand_type};
-ghost use Rattle.c_operator_def.specs.Operators.{binary_typed, conditional_typed, index_typed, cast_typed, size_typed};
+ghost use Rattle.c_check_def.specs.OperandValues.{operand_type};
+ghost use Rattle.c_check_def.specs.Operators.{binary_typed, conditional_typed, index_typed, cast_typed, size_typed};
 ghost use Rattle.c_check_def.specs.declared.refusal_kind.RefusalKind.TheVariants.{BadOperands};
 ghost use Rattle.c_check_def.specs.State.{or_broken};
 ghost use Rattle.c_check_def.specs.Operands.{term_of, binary, conditional, indexed, cast, measured};
 ghost use Rattle.c_check_state.specs.Frames.{KeepsDeclarations};
 
 use crate::outcomes::{or_broken, value_or_broken};
+use base::NoMemory;
 use c_ast::BinaryOp;
-use c_check_def::RefusalKind;
+use c_check_def::{Operand, RefusalKind};
 use c_check_state::{MaybeType, State, Term};
-use c_operator_def::Operand;
 use c_type::CType;
-use no_memory::NoMemory;
 use std::sync::Arc;
 
 /// What a binary operator at an offset makes of two terms (ISO/IEC 9899:2011, 6.5.5 to 6.5.14).

@@ -5,11 +5,10 @@ ghost use Rattle.c_check_def.specs.State.{or_broken};
 ghost use Rattle.c_check_def.specs.Operands.{term_of};
 ghost use Rattle.c_check_state.specs.Frames.{KeepsDeclarations};
 
-use c_check_def::RefusalKind;
+use base::NoMemory;
+use c_check_def::{Operand, RefusalKind};
 use c_check_state::{State, Term};
-use c_operator_def::Operand;
 use c_typed::TExpr;
-use no_memory::NoMemory;
 
 // The operand that there is, or else the rule is broken.
 pub(crate) fn or_broken(

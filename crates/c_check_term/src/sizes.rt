@@ -1,19 +1,18 @@
 //! Values of constant expressions, and the sizes that dimensions give.
 
 ghost use Rattle.std.specs.Prelude.{◌≡◌, None, Some, option_and_then};
-ghost use Rattle.c_operator_def.specs.Constants.{constant_value};
-ghost use Rattle.c_operator_def.specs.Operands.{value_of, place_value};
+ghost use Rattle.c_check_def.specs.Constants.{constant_value};
+ghost use Rattle.c_check_def.specs.OperandValues.{value_of, place_value};
 ghost use Rattle.c_typed.specs.Typed.{PlaceTree};
 ghost use Rattle.c_check_def.specs.Operands.{term_constant};
 ghost use Rattle.c_check_def.specs.Expressions.{size, size_by};
 ghost use Rattle.c_check_state.specs.Frames.{KeepsDeclarations};
 
-use c_check_def::RefusalKind;
+use base::MOST_TYPE_BYTES;
+use c_check_def::{Operand, RefusalKind};
 use c_check_state::{State, Term};
 use c_operator::constant_value;
-use c_operator_def::Operand;
 use c_type::{CType, TypeForm};
-use limits::MOST_TYPE_BYTES;
 
 /// The word of an integer constant expression (ISO/IEC 9899:2011, 6.6p6); none of another term.
 pub fn term_constant(a: &Term) -> Option<u32>

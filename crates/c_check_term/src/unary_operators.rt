@@ -5,12 +5,11 @@ ghost use Rattle.c_check_def.specs.Operands.{unary, unary_of, address, take_addr
 ghost use Rattle.c_check_state.specs.Frames.{KeepsDeclarations};
 
 use crate::outcomes::or_broken;
+use base::NoMemory;
 use c_ast::UnaryOp;
-use c_check_def::RefusalKind;
+use c_check_def::{Operand, RefusalKind};
 use c_check_state::{State, Term};
-use c_operator_def::Operand;
 use c_typed::PlaceForm;
-use no_memory::NoMemory;
 
 /// What `&`, `*`, `+`, `-`, `~` or `!` at an offset makes of a term (ISO/IEC 9899:2011, 6.5.3). `&`
 /// takes the address of a variable that it names.

@@ -15,7 +15,7 @@ use Rattle.c_interp_def.specs.declared.task.Slot.{Slot as CodeSlot}
 use Rattle.c_interp_def.specs.declared.task.Slot.TheVariants.{Holds as Holding, Object}
 use Rattle.c_interp_store.specs.declared.store.Store.{Store}
 use Rattle.c_interp_store.specs.Holding.{Opened, Holds, IsChanged}
-use Rattle.c_interp_expand.specs.TaskViews.{slot_of, slots_of}
+use Rattle.c_interp_answer.specs.TaskViews.{slot_of, slots_of}
 use Rattle.c_interp.specs.Steps.{IsSomeHeld}
 
 -- ---- the newest operands

@@ -20,7 +20,7 @@ use Rattle.c_mean.specs.Expressions.{Context, at_address, address_of, spot_writt
 use Rattle.c_mean.specs.Statements as mean
 use Rattle.c_mean.specs.Statements.{normal}
 use Rattle.c_mean.specs.Run.{heard_as}
-use Rattle.c_interp_value.specs.Operators.{used_value}
+use Rattle.c_interp_store.specs.Operators.{used_value}
 use Rattle.c_interp_def.specs.Configurations.{Configuration, Reached, reaches, state_of, gives_value, with_operands}
 use Rattle.c_interp_def.specs.ExprTasks as task
 use Rattle.c_interp_def.specs.ExprTasks.{context, expr_task_run}
@@ -31,7 +31,7 @@ use Rattle.c_interp_def.specs.declared.task.Task.{Task as Left}
 use Rattle.c_interp_def.specs.declared.task.Slot.{Slot}
 use Rattle.c_interp_def.specs.declared.task.Flow.{Flow}
 use Rattle.c_interp_def.specs.declared.task.Flow.TheVariants.{Normal, Returned as JumpedBack}
-use Rattle.c_interp_expand.specs.TaskViews.{task_of, tasks_of, slots_of, flow_of}
+use Rattle.c_interp_answer.specs.TaskViews.{task_of, tasks_of, slots_of, flow_of}
 use Rattle.c_interp_answer.specs.declared.assignment.Assignment.{Assignment}
 use Rattle.c_interp_answer.specs.Answered.{IsValue, IsAddress, IsWritten, HasTruth, IsTruth}
 use Rattle.c_interp.specs.declared.stop.Stop.{Stop}

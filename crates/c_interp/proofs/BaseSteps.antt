@@ -15,7 +15,7 @@ use Rattle.c_interp_store.specs.Holding.{Opened, Holds, IsChanged}
 use Rattle.c_interp_def.specs.Configurations.{Configuration, reaches, with_operands}
 use Rattle.c_interp_def.specs.declared.task.Slot.{Slot}
 use Rattle.c_interp_def.specs.declared.task.Flow.TheVariants.{Normal}
-use Rattle.c_interp_expand.specs.TaskViews.{slots_of, flow_of}
+use Rattle.c_interp_answer.specs.TaskViews.{slots_of, flow_of}
 use Rattle.c_interp.specs.declared.stop.Stop.{Stop}
 use Rattle.c_interp.specs.declared.stop.Stop.TheVariants as stop
 use Rattle.c_interp.specs.declared.machine.Machine.{Machine}

@@ -22,7 +22,7 @@ use Rattle.c_interp_def.specs.CallLaws.{IsHeardAs, call_tasks, in_call, call_mem
 use Rattle.c_interp_def.proofs.CallProofs.{call-is-cut, call-enters}
 use Rattle.c_interp_def.specs.declared.task.Flow.TheVariants.{Normal}
 use Rattle.c_interp_def.specs.declared.task.Task.{Task as Left}
-use Rattle.c_interp_expand.specs.TaskViews.{flow_of}
+use Rattle.c_interp_answer.specs.TaskViews.{flow_of}
 use Rattle.c_interp_def.specs.declared.task.Slot.{Slot}
 use Rattle.c_interp.specs.declared.frame.Frame.{Frame}
 use Rattle.c_interp.specs.declared.frame.Active.{Active}

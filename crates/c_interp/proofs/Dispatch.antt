@@ -5,7 +5,7 @@ use Rattle.c_type.specs.Trees.{TypeTree}
 use Rattle.c_typed.specs.declared.operator.UnaryOp.{UnaryOp}
 use Rattle.c_typed.specs.declared.operator.UnaryOp.TheVariants as unary_op
 use Rattle.c_typed.specs.Typed.{StmtTree, ProgramTree}
-use Rattle.c_interp_value.specs.Operators.{is_pure}
+use Rattle.c_interp_store.specs.Operators.{is_pure}
 use Rattle.c_interp_def.specs.ExprTasks.{unary, expr_task_run}
 use Rattle.c_interp_def.specs.StmtTasks.{of_expr, of_stmt, stmt_task_run, handler_run}
 use Rattle.c_interp_def.specs.declared.task.ExprTask.{ExprTask}
@@ -16,7 +16,7 @@ use Rattle.c_interp_def.specs.declared.task.Handler.{Handler}
 use Rattle.c_interp_def.specs.declared.task.Task.{Task}
 use Rattle.c_interp_def.specs.declared.task.Flow.{Flow}
 use Rattle.c_interp_def.specs.declared.task.Flow.TheVariants.{Normal}
-use Rattle.c_interp_expand.specs.TaskViews.{expr_task_of, stmt_task_of, on_stmt, handler_of, task_of, flow_of}
+use Rattle.c_interp_answer.specs.TaskViews.{expr_task_of, stmt_task_of, on_stmt, handler_of, task_of, flow_of}
 use Rattle.c_interp.specs.declared.stop.Stop.{Stop}
 use Rattle.c_interp.specs.declared.machine.Machine.{Machine}
 use Rattle.c_interp.specs.Steps.{IsStep, task_from}

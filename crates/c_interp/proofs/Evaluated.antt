@@ -14,7 +14,7 @@ use Rattle.c_mean.specs.State.{State, gives, truth}
 use Rattle.c_mean.specs.Expressions.{Context, binary_done, branched, expr_run}
 use Rattle.c_mean.specs.Statements as mean
 use Rattle.c_interp_store.specs.Holding.{Opened, Holds}
-use Rattle.c_interp_value.specs.Operators.{used_value}
+use Rattle.c_interp_store.specs.Operators.{used_value}
 use Rattle.c_interp_def.specs.Configurations.{Configuration, Reached, reaches, state_of, gives_value, with_operands}
 use Rattle.c_interp_def.specs.ExprTasks as task
 use Rattle.c_interp_def.specs.ExprTasks.{context, count_of, expr_task_run}

@@ -16,7 +16,7 @@ use Rattle.c_typed.specs.Objects.{access_width}
 use Rattle.c_mean.specs.State.{State, gives, truth, member_address}
 use Rattle.c_mean.specs.Expressions.{given_word, branched, unary_done, binary_done, compound_done, stepped, expr_run}
 use Rattle.c_interp_store.specs.Holding.{Opened, Holds}
-use Rattle.c_interp_value.specs.Operators.{used_value}
+use Rattle.c_interp_store.specs.Operators.{used_value}
 use Rattle.c_interp_def.specs.Configurations.{Configuration, Reached, state_of, gives_value, with_operands}
 use Rattle.c_interp_def.specs.ExprTasks as task
 use Rattle.c_interp_def.specs.ExprTasks.{context, expr_task_run}

@@ -19,7 +19,7 @@ use Rattle.c_interp_def.specs.Configurations as def
 use Rattle.c_interp_def.specs.Configurations.{variables_in, variables_of, object_sizes}
 use Rattle.c_interp_def.specs.ExprTasks.{newest}
 use Rattle.c_interp_def.specs.CallLaws.{call_memory}
-use Rattle.c_interp_expand.specs.TaskViews.{slots_of}
+use Rattle.c_interp_answer.specs.TaskViews.{slots_of}
 use Rattle.c_interp.specs.declared.frame.Active.{Active}
 use Rattle.c_interp.specs.declared.machine.Machine.{Machine}
 use Rattle.c_interp.specs.Machines.{opened_by, config_of, IsHeld}

@@ -12,7 +12,7 @@ use Rattle.c_typed.specs.Typed.{ExprTree, OptionalExpr, some_expr, InitialTree, 
 use Rattle.c_typed.specs.Objects.{object_number}
 use Rattle.c_mean.specs.State.{holds, object, used}
 use Rattle.c_mean.specs.Statements.{normal, newest_written}
-use Rattle.c_interp_value.specs.Operators.{used_value}
+use Rattle.c_interp_store.specs.Operators.{used_value}
 use Rattle.c_interp_def.specs.Configurations.{Configuration, Reached, reaches, state_of, gives_value, goes_on_at, variables_of}
 use Rattle.c_interp_def.specs.ExprTasks as task
 use Rattle.c_interp_def.specs.StmtTasks as stmt
@@ -24,7 +24,7 @@ use Rattle.c_interp_def.specs.declared.task.Task.TheVariants.{Handler}
 use Rattle.c_interp_def.specs.declared.task.Handler.TheVariants.{EndScope}
 use Rattle.c_interp_def.specs.declared.task.Slot.{Slot}
 use Rattle.c_interp_def.specs.declared.task.Slot.TheVariants.{Holds as HeldSlot}
-use Rattle.c_interp_expand.specs.TaskViews.{slot_of, slots_of}
+use Rattle.c_interp_answer.specs.TaskViews.{slot_of, slots_of}
 use Rattle.c_interp_answer.specs.Answered.{IsValue, IsTruth}
 use Rattle.c_interp.specs.declared.stop.Stop.{Stop}
 use Rattle.c_interp.specs.declared.stop.Stop.TheVariants as stop

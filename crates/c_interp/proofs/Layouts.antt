@@ -8,9 +8,9 @@ use Rattle.c_mean.specs.Run.{objects_of}
 use Rattle.c_interp_store.specs.declared.shape.Shape.{Shape}
 use Rattle.c_interp_store.specs.Blocks.{shapes_of}
 use Rattle.c_interp_def.specs.Configurations.{variables_in, variables_of, object_sizes}
-use Rattle.c_interp_layout.specs.declared.layout.Layout.{Layout}
-use Rattle.c_interp_layout.specs.declared.layout.Layouts.{Layouts}
-use Rattle.c_interp_layout.specs.Laid.{size_in, sizes_in, IsLayout, IsLaid}
+use Rattle.c_interp_store.specs.declared.layout.Layout.{Layout}
+use Rattle.c_interp_store.specs.declared.layout.Layouts.{Layouts}
+use Rattle.c_interp_store.specs.Laid.{size_in, sizes_in, IsLayout, IsLaid}
 
 none-past : {X : Type 0} (xs : List X) (k : ℕ) → slice_get xs k ≡ None → length xs ≤ k
 none-past [] k e = omega arith

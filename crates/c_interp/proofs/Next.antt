@@ -11,7 +11,7 @@ use Rattle.c_interp_def.specs.CallLaws.{IsHeardAs}
 use Rattle.c_interp_def.specs.StmtTasks.{Task, task_run, tasks_run}
 use Rattle.c_interp_def.proofs.StmtLaws.{tasks-append}
 use Rattle.c_interp_def.specs.declared.task.Task.{Task as Left}
-use Rattle.c_interp_expand.specs.TaskViews.{task_of, tasks_of, flow_of}
+use Rattle.c_interp_answer.specs.TaskViews.{task_of, tasks_of, flow_of}
 use Rattle.c_interp.specs.declared.stop.Stop.{Stop}
 use Rattle.c_interp.specs.declared.machine.Machine.{Machine}
 use Rattle.c_interp.specs.Machines.{config_of, reached_of, IsHeld}

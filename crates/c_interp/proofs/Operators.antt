@@ -15,7 +15,7 @@ use Rattle.c_mean.specs.State.{Slot, holds, object, gives, used, converted, exte
 use Rattle.c_mean.specs.State as state
 use Rattle.c_mean.specs.Expressions.{Context, in_slot, at_address, slot_spot, address_of, slot_value, spot_read, spot_written, given_word, branched, expr_run}
 use Rattle.c_mean.specs.Statements.{normal}
-use Rattle.c_interp_value.specs.Operators.{used_value}
+use Rattle.c_interp_store.specs.Operators.{used_value}
 use Rattle.c_interp_def.specs.Configurations.{Configuration, Reached, reaches, state_of, gives_value, with_operands}
 use Rattle.c_interp_def.specs.ExprTasks.{test}
 use Rattle.c_interp_def.specs.StmtTasks.{of_expr, task_run}

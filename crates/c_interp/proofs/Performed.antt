@@ -17,7 +17,7 @@ use Rattle.c_mean.specs.Expressions.{Context, in_slot, slot_value, spot_read, sp
 use Rattle.c_mean.specs.Statements.{normal}
 use Rattle.c_interp_store.specs.declared.store.Store.{Store}
 use Rattle.c_interp_store.specs.Holding.{Opened, Holds, IsChanged}
-use Rattle.c_interp_value.specs.Operators.{used_value}
+use Rattle.c_interp_store.specs.Operators.{used_value}
 use Rattle.c_interp_def.specs.Configurations.{Configuration, Reached, reaches, state_of, gives_value}
 use Rattle.c_interp_def.specs.ExprTasks as task
 use Rattle.c_interp_def.specs.ExprTasks.{context, holds_value, value_slot}
@@ -25,7 +25,7 @@ use Rattle.c_interp_def.specs.StmtTasks.{StmtTask, of_expr, of_stmt, optional_ta
 use Rattle.c_interp_def.proofs.PlaceLaws.{in-slot}
 use Rattle.c_interp_def.specs.declared.task.Slot.{Slot as CodeSlot}
 use Rattle.c_interp_def.specs.declared.task.Flow.TheVariants.{Normal}
-use Rattle.c_interp_expand.specs.TaskViews.{slots_of, flow_of}
+use Rattle.c_interp_answer.specs.TaskViews.{slots_of, flow_of}
 use Rattle.c_interp_answer.specs.declared.assignment.Assignment.{Assignment}
 use Rattle.c_interp_answer.specs.Answered.{IsValue, IsAddress, IsWritten, slot_if, place_slot}
 use Rattle.c_interp.specs.declared.stop.Stop.{Stop}

@@ -25,7 +25,7 @@ use Rattle.c_interp_def.specs.StmtTasks as s
 use Rattle.c_interp_def.specs.StmtTasks.{of_expr, of_stmt}
 use Rattle.c_interp_def.specs.declared.task.Flow.{Flow}
 use Rattle.c_interp_def.specs.declared.task.Flow.TheVariants.{Normal, Broke, Continued, Returned as JumpedBack}
-use Rattle.c_interp_expand.specs.TaskViews.{tasks_of, flow_of}
+use Rattle.c_interp_answer.specs.TaskViews.{tasks_of, flow_of}
 use Rattle.c_interp.specs.declared.stop.Stop.{Stop}
 use Rattle.c_interp.specs.declared.stop.Stop.TheVariants as stop
 use Rattle.c_interp.specs.declared.machine.Machine.{Machine}

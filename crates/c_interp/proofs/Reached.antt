@@ -21,7 +21,7 @@ use Rattle.c_interp_def.specs.CallLaws.{IsHeardAs, program_tasks}
 use Rattle.c_interp_def.proofs.StmtLaws.{tasks-append}
 use Rattle.c_interp_def.proofs.CallProofs.{run-is-tasks}
 use Rattle.c_interp_def.specs.declared.task.Task.{Task}
-use Rattle.c_interp_expand.specs.TaskViews.{task_of, tasks_of, flow_of}
+use Rattle.c_interp_answer.specs.TaskViews.{task_of, tasks_of, flow_of}
 use Rattle.c_interp.specs.declared.stop.Ending.{Ending}
 use Rattle.c_interp.specs.declared.stop.Ending.TheVariants as ending
 use Rattle.c_interp.specs.declared.stop.Stop.{Stop}

@@ -15,7 +15,7 @@ use Rattle.c_mean.specs.State as state
 use Rattle.c_mean.specs.State.{State, used}
 use Rattle.c_mean.specs.Expressions.{branched}
 use Rattle.c_mean.specs.Statements.{Flow, Flowed, normal, broke, returned, after_turn, optional_step, loop_run, zeros, in_scope}
-use Rattle.c_interp_value.specs.Operators.{used_value}
+use Rattle.c_interp_store.specs.Operators.{used_value}
 use Rattle.c_interp_def.specs.Configurations.{Configuration, Reached, reaches, state_of, goes_on_at, flows_on, on_top, with_operands}
 use Rattle.c_interp_def.specs.ExprTasks.{evaluate, locate, expr_tasks, place_tasks_of, context, expr_task_run}
 use Rattle.c_interp_def.specs.StmtTasks.{Task, handler, again, run_turns, turn_if, entered, turn_tasks, again_run, turn_run, body_of, stmt_task_run, task_run, tasks_run}
@@ -24,7 +24,7 @@ use Rattle.c_interp_def.proofs.ExprLaws.{expression-expands, place-expands}
 use Rattle.c_interp_def.proofs.Steps.{both}
 use Rattle.c_interp_def.specs.declared.task.Flow.TheVariants.{Normal}
 use Rattle.c_interp_def.specs.declared.task.Task.{Task as Left}
-use Rattle.c_interp_expand.specs.TaskViews.{tasks_of, IsTurn}
+use Rattle.c_interp_answer.specs.TaskViews.{tasks_of, IsTurn}
 use Rattle.c_interp.specs.declared.stop.Stop.TheVariants as stop
 use Rattle.c_interp.specs.declared.machine.Machine.{Machine}
 use Rattle.c_interp.specs.Machines.{config_of}

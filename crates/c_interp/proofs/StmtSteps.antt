@@ -18,7 +18,7 @@ use Rattle.c_mean.specs.Statements.{normal, returned, chosen_groups, characters_
 use Rattle.c_mean.specs.Run.{global_sizes}
 use Rattle.c_interp_store.specs.declared.store.Store.{Store}
 use Rattle.c_interp_store.specs.Holding.{Opened, Holds, IsChanged}
-use Rattle.c_interp_value.specs.Operators.{used_value}
+use Rattle.c_interp_store.specs.Operators.{used_value}
 use Rattle.c_interp_def.specs.Configurations.{Configuration, Reached, reaches, state_of, goes_on_at, with_operands, variables_of, object_sizes}
 use Rattle.c_interp_def.specs.ExprTasks as task
 use Rattle.c_interp_def.specs.ExprTasks.{context, expr_task_run}
@@ -28,7 +28,7 @@ use Rattle.c_interp_def.specs.declared.task.Slot.{Slot}
 use Rattle.c_interp_def.specs.declared.task.Slot.TheVariants.{Holds as HeldSlot}
 use Rattle.c_interp_def.specs.declared.task.Flow.{Flow}
 use Rattle.c_interp_def.specs.declared.task.Flow.TheVariants.{Normal, Broke, Continued, Returned as JumpedBack}
-use Rattle.c_interp_expand.specs.TaskViews.{slot_of, slots_of, flow_of}
+use Rattle.c_interp_answer.specs.TaskViews.{slot_of, slots_of, flow_of}
 use Rattle.c_interp.specs.declared.stop.Stop.{Stop}
 use Rattle.c_interp.specs.declared.stop.Stop.TheVariants as stop
 use Rattle.c_interp.specs.declared.machine.Machine.{Machine}

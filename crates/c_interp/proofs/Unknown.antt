@@ -18,7 +18,7 @@ use Rattle.c_typed.specs.Objects.{access_width}
 use Rattle.c_mean.specs.State.{holds, State, Valued, truth}
 use Rattle.c_mean.specs.Expressions.{address_of, given_word, branched, expr_run}
 use Rattle.c_interp_store.specs.Holding.{Opened, Holds}
-use Rattle.c_interp_value.specs.Operators.{used_value}
+use Rattle.c_interp_store.specs.Operators.{used_value}
 use Rattle.c_interp_def.specs.Configurations.{Configuration, Reached, state_of, gives_value, with_operands}
 use Rattle.c_interp_def.specs.ExprTasks as task
 use Rattle.c_interp_def.specs.ExprTasks.{context, value_slot, unary_tasks, read_tasks, assign_tasks, step_tasks, expr_task_run}
@@ -26,7 +26,7 @@ use Rattle.c_interp_def.specs.StmtTasks.{Task, of_expr, task_run, tasks_run}
 use Rattle.c_interp_def.specs.Laws.{of_exprs, normally}
 use Rattle.c_interp_def.proofs.ExprLaws.{expression-expands, place-expands}
 use Rattle.c_interp_def.specs.declared.task.Slot.{Slot as CodeSlot}
-use Rattle.c_interp_expand.specs.TaskViews.{slots_of}
+use Rattle.c_interp_answer.specs.TaskViews.{slots_of}
 use Rattle.c_interp_answer.specs.declared.assignment.Assignment.{Assignment}
 use Rattle.c_interp_answer.specs.Answered.{IsValue, IsAddress, IsTruth, IsWritten, HasTruth, place_slot}
 use Rattle.c_interp.specs.declared.stop.Stop.{Stop}

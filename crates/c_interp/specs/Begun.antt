@@ -4,7 +4,7 @@ use Rattle.c_typed.specs.Typed.{ProgramTree}
 use Rattle.c_mean.specs.Run.{first_memory}
 use Rattle.c_interp_def.specs.CallLaws.{at_start, program_tasks}
 use Rattle.c_interp_def.specs.Laws.{normally}
-use Rattle.c_interp_expand.specs.TaskViews.{tasks_of}
+use Rattle.c_interp_answer.specs.TaskViews.{tasks_of}
 use Rattle.c_interp.specs.declared.stop.Ending.{Ending}
 use Rattle.c_interp.specs.declared.stop.Ending.TheVariants as ending
 use Rattle.c_interp.specs.declared.stop.Stop.{Stop}

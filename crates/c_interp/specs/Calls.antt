@@ -11,7 +11,7 @@ use Rattle.c_interp_def.specs.CallLaws.{call_tasks, call_memory}
 use Rattle.c_interp_def.specs.declared.task.Flow.TheVariants.{Normal}
 use Rattle.c_interp_def.specs.declared.task.Handler.TheVariants.{EndCall}
 use Rattle.c_interp_def.specs.declared.task.Task.TheVariants.{Handler}
-use Rattle.c_interp_expand.specs.TaskViews.{flow_of}
+use Rattle.c_interp_answer.specs.TaskViews.{flow_of}
 use Rattle.c_interp.specs.declared.stop.Stop.{Stop}
 use Rattle.c_interp.specs.declared.stop.Stop.TheVariants as stop
 use Rattle.c_interp.specs.declared.frame.Active.{Active}

@@ -6,7 +6,7 @@ use Rattle.c_mean.specs.Run.{objects_of}
 use Rattle.c_interp_store.specs.Holding.{Opened, Holds, opened_of}
 use Rattle.c_interp_def.specs.Configurations as def
 use Rattle.c_interp_def.specs.Configurations.{Configuration, Reached, variables_of}
-use Rattle.c_interp_expand.specs.TaskViews.{slots_of, flow_of}
+use Rattle.c_interp_answer.specs.TaskViews.{slots_of, flow_of}
 use Rattle.c_interp_def.specs.declared.task.Slot.{Slot}
 use Rattle.c_interp.specs.declared.frame.Frame.{Frame}
 use Rattle.c_interp.specs.declared.frame.Active.{Active}

@@ -14,7 +14,7 @@ use Rattle.c_interp_def.specs.declared.task.ExprTask.TheVariants.{ReadByte, Writ
 use Rattle.c_interp_def.specs.Configurations.{Configuration, Reached}
 use Rattle.c_interp_def.specs.StmtTasks.{Task, tasks_run}
 use Rattle.c_interp_def.specs.CallLaws.{IsHeardAs}
-use Rattle.c_interp_expand.specs.TaskViews.{tasks_of}
+use Rattle.c_interp_answer.specs.TaskViews.{tasks_of}
 use Rattle.c_interp.specs.declared.stop.Stop.{Stop}
 use Rattle.c_interp.specs.declared.stop.Stop.TheVariants as stop
 use Rattle.c_interp.specs.declared.machine.Machine.{Machine}

@@ -13,7 +13,7 @@ use Rattle.c_typed.specs.Objects.{object_number, access_width}
 use Rattle.c_mean.specs.State.{Slot, holds, object, converted, extended}
 use Rattle.c_interp_store.specs.declared.store.Store.{Store}
 use Rattle.c_interp_store.specs.Holding.{Opened, Holds}
-use Rattle.c_interp_value.specs.Operators.{used_value}
+use Rattle.c_interp_store.specs.Operators.{used_value}
 use Rattle.c_mean.specs.Expressions.{branched}
 use Rattle.c_mean.specs.Statements.{Flow, normal, returned}
 use Rattle.c_interp_def.specs.Configurations.{Configuration, Reached, reaches, with_slots, with_operands, on_operand}
@@ -22,7 +22,7 @@ use Rattle.c_interp_def.specs.StmtTasks.{Task, of_expr, of_stmt, handler, run_it
 use Rattle.c_interp_def.specs.declared.task.Flow.TheVariants.{Normal}
 use Rattle.c_interp_def.specs.Laws.{normally, tasks_or_cut}
 use Rattle.c_interp_def.specs.CallLaws.{IsHeardAs}
-use Rattle.c_interp_expand.specs.TaskViews.{tasks_of}
+use Rattle.c_interp_answer.specs.TaskViews.{tasks_of}
 use Rattle.c_interp.specs.declared.stop.Stop.{Stop}
 use Rattle.c_interp.specs.declared.stop.Stop.TheVariants as stop
 use Rattle.c_interp.specs.declared.machine.Machine.{Machine}

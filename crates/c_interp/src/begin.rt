@@ -6,12 +6,12 @@ ghost use Rattle.c_typed.specs.Typed.{ProgramTree};
 ghost use Rattle.c_mean.specs.State.{bytes_into};
 ghost use Rattle.c_mean.specs.Statements.{characters_stored};
 ghost use Rattle.c_interp_store.specs.Holding.{Opened, Holds};
-ghost use Rattle.c_interp_expand.specs.TaskViews.{slot_of};
+ghost use Rattle.c_interp_answer.specs.TaskViews.{slot_of};
 ghost use Rattle.c_interp_def.specs.Configurations.{variables_of};
 ghost use Rattle.c_interp_def.specs.declared.task.Flow.TheVariants.{Normal};
 ghost use Rattle.c_interp_def.specs.StmtTasks as stmt;
 ghost use Rattle.c_interp_def.specs.StmtTasks.{stmt_task_run};
-ghost use Rattle.c_interp_layout.specs.Laid.{IsLaid};
+ghost use Rattle.c_interp_store.specs.Laid.{IsLaid};
 ghost use Rattle.c_interp.specs.Steps.{IsStep, slot_begun, is_value, IsStored};
 
 use crate::machine::{Machine, Program};
@@ -19,10 +19,9 @@ use crate::operands::store;
 use crate::statement::{numbers, variables};
 use crate::stop::Stop;
 use crate::variable::object_at;
+use base::Bytes;
 use c_interp_def::Slot;
-use c_interp_store::Store;
-use c_interp_value::used;
-use c_lex::Bytes;
+use c_interp_store::{Store, used};
 use c_type::CType;
 use val_core::Value;
 

@@ -8,13 +8,13 @@ ghost use Rattle.c_typed.specs.WellTyped.{type_of};
 ghost use Rattle.c_mean.specs.State.{State, gives};
 ghost use Rattle.c_mean.specs.Expressions.{binary_done};
 ghost use Rattle.c_interp_store.specs.Holding.{Opened, Holds};
-ghost use Rattle.c_interp_expand.specs.TaskViews.{task_of, slots_of};
+ghost use Rattle.c_interp_answer.specs.TaskViews.{task_of, slots_of};
 ghost use Rattle.c_interp_def.specs.StmtTasks.{of_expr};
 ghost use Rattle.c_interp_def.specs.declared.task.Flow.TheVariants.{Normal};
 ghost use Rattle.c_interp_def.specs.ExprTasks as task;
 ghost use Rattle.c_interp_def.specs.ExprTasks.{unary_tasks, expr_task_run};
 ghost use Rattle.c_interp_def.specs.Laws.{of_exprs};
-ghost use Rattle.c_interp_layout.specs.Laid.{IsLaid};
+ghost use Rattle.c_interp_store.specs.Laid.{IsLaid};
 ghost use Rattle.c_interp_answer.specs.Answered.{IsValue, IsAddress, place_slot};
 ghost use Rattle.c_interp.specs.Known.{Knows};
 ghost use Rattle.c_interp.specs.Steps.{IsStep, tasks_do, tested_run, passed_run, passed_then};
@@ -27,8 +27,7 @@ use crate::push::{put, put3};
 use crate::stop::Stop;
 use crate::variable::{set_slot, step_slot};
 use c_interp_def::{ExprTask, Task};
-use c_interp_store::Store;
-use c_interp_value::{binary, used};
+use c_interp_store::{Store, binary, used};
 use c_type::CType;
 use c_typed::{BinaryOp, ExprForm, IncDec, PlaceForm, TExpr, TPlace, UnaryOp};
 use val_core::Value;
@@ -163,7 +162,7 @@ fn expand<'a>(machine: &mut Machine<'a>, e: &'a TExpr) -> Result<(), Stop>
     ensures { (p : ProgramTree) (n : ℕ)
         → IsStep p n result machine.old machine.new (expr_task_run p n (task.evaluate e.now)) }
 {
-    c_interp_expand::evaluate(e, &machine.slots, &mut machine.tasks)?;
+    c_interp_answer::evaluate(e, &machine.slots, &mut machine.tasks)?;
     Ok(())
 }
 
@@ -622,7 +621,7 @@ fn find<'a>(machine: &mut Machine<'a>, q: &'a TPlace) -> Result<(), Stop>
     ensures { (p : ProgramTree) (n : ℕ)
         → IsStep p n result machine.old machine.new (expr_task_run p n (task.locate q.now)) }
 {
-    c_interp_expand::locate(q, &mut machine.tasks)?;
+    c_interp_answer::locate(q, &mut machine.tasks)?;
     Ok(())
 }
 

@@ -7,7 +7,7 @@ ghost use Rattle.c_typed.specs.Typed.{ProgramTree};
 ghost use Rattle.c_mean.specs.State.{State};
 ghost use Rattle.c_mean.specs.Expressions.{compound_done, stepped};
 ghost use Rattle.c_interp_store.specs.Holding.{Opened, Holds};
-ghost use Rattle.c_interp_value.specs.Operators.{is_pure};
+ghost use Rattle.c_interp_store.specs.Operators.{is_pure};
 ghost use Rattle.c_interp_def.specs.declared.task.Flow.TheVariants.{Normal};
 ghost use Rattle.c_interp_def.specs.ExprTasks as task;
 ghost use Rattle.c_interp_def.specs.ExprTasks.{expr_task_run};
@@ -18,10 +18,9 @@ use crate::operands::{give, give_value, three, two, write};
 use crate::push::{choose, put2};
 use crate::stop::Stop;
 use c_interp_def::{ExprTask, Task};
-use c_interp_store::Store;
-use c_interp_value::{
-    access_width, binary, compound, converted, extended, member_address, stepped, truth, unary,
-    used,
+use c_interp_store::{
+    Store, access_width, binary, compound, converted, extended, member_address, stepped, truth,
+    unary, used,
 };
 use c_type::CType;
 use c_typed::{BinaryOp, CompoundOp, IncDec, TExpr, UnaryOp};

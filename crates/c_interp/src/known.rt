@@ -1,8 +1,8 @@
 //! What is known of an expression at once, where the machine stands.
 
 ghost use Rattle.std.specs.Prelude.{◌≡◌, ℕ, slice_get};
-ghost use Rattle.c_interp_expand.specs.TaskViews.{slots_of};
-ghost use Rattle.c_interp_layout.specs.Laid.{IsLaid};
+ghost use Rattle.c_interp_answer.specs.TaskViews.{slots_of};
+ghost use Rattle.c_interp_store.specs.Laid.{IsLaid};
 ghost use Rattle.c_interp_answer.specs.Answered.{IsValue, IsTruth, IsAddress, IsWritten, place_slot};
 ghost use Rattle.c_interp.specs.Known.{Shows, Knows};
 ghost use Rattle.c_interp.specs.Steps.{slot_read};

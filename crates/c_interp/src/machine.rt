@@ -2,8 +2,7 @@
 
 use crate::frame::{Active, Frame};
 use c_interp_def::{Flow, Slot, Task};
-use c_interp_layout::Layouts;
-use c_interp_store::Store;
+use c_interp_store::{Layouts, Store};
 use c_typed::Typed;
 use std::alloc::Global;
 use val_core::Value;

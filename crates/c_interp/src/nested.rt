@@ -9,7 +9,7 @@ ghost use Rattle.c_interp_def.specs.StmtTasks as stmt;
 ghost use Rattle.c_interp_def.specs.StmtTasks.{handler, of_expr, of_stmt, optional_tasks, turn_tasks, stmt_task_run, task_run};
 ghost use Rattle.c_interp_def.specs.ExprTasks as task;
 ghost use Rattle.c_interp_def.specs.ExprTasks.{expr_task_run};
-ghost use Rattle.c_interp_layout.specs.Laid.{IsLaid};
+ghost use Rattle.c_interp_store.specs.Laid.{IsLaid};
 ghost use Rattle.c_interp_answer.specs.Answered.{IsValue};
 ghost use Rattle.c_interp.specs.Known.{Knows, while_loop};
 ghost use Rattle.c_interp.specs.Steps.{IsStep, tasks_do, turns_do, loop_then, declared_do, is_loop};
@@ -22,7 +22,7 @@ use crate::perform::{evaluate_and_drop, perform, performed};
 use crate::statement::{expand, expand_items, jump, return_value};
 use crate::stop::Stop;
 use c_interp_def::{Flow, Handler, Slot, Stage, StmtTask, Task};
-use c_interp_value::used;
+use c_interp_store::used;
 use c_typed::{Declaration, Initial, Item, StmtForm, TExpr, TStmt};
 use val_core::Value;
 
@@ -661,7 +661,7 @@ fn put_turns<'a>(machine: &mut Machine<'a>, turns: u64, a: &'a TStmt) -> Result<
     if !is_loop(a) {
         return Err(Stop::Undefined);
     }
-    if c_interp_expand::run_turns(turns, a, &mut machine.tasks)? {
+    if c_interp_answer::run_turns(turns, a, &mut machine.tasks)? {
         Ok(())
     } else {
         Err(Stop::Cut)

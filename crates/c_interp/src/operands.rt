@@ -7,7 +7,7 @@ ghost use Rattle.c_interp.specs.Steps.{IsStep, number, give_run, write_run, stor
 
 use crate::machine::Machine;
 use crate::stop::Stop;
-use c_interp_value::access_width;
+use c_interp_store::access_width;
 use c_type::CType;
 use val_core::Value;
 

@@ -21,7 +21,7 @@ pub(crate) fn drop_each<'a>(machine: &mut Machine<'a>, es: &'a [TExpr]) -> Resul
         → IsStep p n result machine.old machine.new
         (expr_task_run p n (task.drop_each (exprs_of es.now))) }
 {
-    c_interp_expand::drop_each(es, &mut machine.tasks)?;
+    c_interp_answer::drop_each(es, &mut machine.tasks)?;
     Ok(())
 }
 
@@ -32,7 +32,7 @@ pub(crate) fn run_groups<'a>(machine: &mut Machine<'a>, gs: &'a [Group]) -> Resu
         → IsStep p n result machine.old machine.new
         (stmt_task_run p n (stmt.run_groups (groups_of gs.now))) }
 {
-    c_interp_expand::run_groups(gs, &mut machine.tasks)?;
+    c_interp_answer::run_groups(gs, &mut machine.tasks)?;
     Ok(())
 }
 
@@ -47,6 +47,6 @@ pub(crate) fn begin_elements<'a>(
         → IsStep p n result machine.old machine.new
         (stmt_task_run p n (stmt.begin_elements number (elements_of es.now))) }
 {
-    c_interp_expand::begin_elements(number, es, &mut machine.tasks)?;
+    c_interp_answer::begin_elements(number, es, &mut machine.tasks)?;
     Ok(())
 }

@@ -2,7 +2,7 @@
 
 ghost use Rattle.std.specs.Prelude.{◌≡◌, ◌∷◌, [], ℕ};
 ghost use Rattle.c_typed.specs.Typed.{ProgramTree};
-ghost use Rattle.c_interp_expand.specs.TaskViews.{task_of};
+ghost use Rattle.c_interp_answer.specs.TaskViews.{task_of};
 ghost use Rattle.c_interp_def.specs.declared.task.Flow.TheVariants.{Normal};
 ghost use Rattle.c_interp.specs.Steps.{IsStep, choose_run, tasks_do};
 

@@ -3,7 +3,7 @@
 ghost use Rattle.std.specs.Prelude.{◌≡◌, ◌≤◌, MatchResult, IfOk};
 ghost use Rattle.c_typed.specs.WellTyped.{IsWellTyped};
 ghost use Rattle.cc_io.specs.Faults.{Increased};
-ghost use Rattle.c_interp_layout.specs.Laid.{IsLaid};
+ghost use Rattle.c_interp_store.specs.Laid.{IsLaid};
 ghost use Rattle.c_interp.specs.Interpreted.{HasEnded, IsPart};
 ghost use Rattle.c_interp.specs.Begun.{HasBegun, HasStopped};
 ghost use Rattle.c_interp.specs.declared.stop.Stop.TheVariants as AnyStop;
@@ -12,12 +12,11 @@ use crate::frame::Frame;
 use crate::machine::{Machine, Program};
 use crate::step::step;
 use crate::stop::{Ending, Stop};
+use base::NoMemory;
 use c_interp_def::{ExprTask, Flow, Task};
-use c_interp_layout::{first_memory, lay_out};
-use c_interp_store::Objects;
+use c_interp_store::{Objects, first_memory, lay_out};
 use c_typed::Typed;
 use cc_io::{Sink, Source};
-use no_memory::NoMemory;
 use std::alloc::Global;
 
 /// Runs a program from an input to an output, where a loop takes at most `bound` turns and calls

@@ -4,12 +4,12 @@ ghost use Rattle.std.specs.Prelude.{◌≡◌, ◌≤◌, ℕ, [], length, drop}
 ghost use Rattle.c_typed.specs.Typed.{ProgramTree, return_value};
 ghost use Rattle.c_typed.specs.StmtViews.{groups_of, items_of};
 ghost use Rattle.c_mean.specs.Statements.{chosen_groups, from_default};
-ghost use Rattle.c_interp_expand.specs.TaskViews.{flow_of};
+ghost use Rattle.c_interp_answer.specs.TaskViews.{flow_of};
 ghost use Rattle.c_interp_def.specs.Configurations.{variables_of};
 ghost use Rattle.c_interp_def.specs.declared.task.Flow.TheVariants.{Normal};
 ghost use Rattle.c_interp_def.specs.StmtTasks as stmt;
 ghost use Rattle.c_interp_def.specs.StmtTasks.{stmt_task_run};
-ghost use Rattle.c_interp_layout.specs.Laid.{AreNumbers, IsLaid};
+ghost use Rattle.c_interp_store.specs.Laid.{AreNumbers, IsLaid};
 ghost use Rattle.c_interp.specs.Steps.{IsStep, return_run};
 
 use crate::evaluate::evaluate_unknown;
@@ -19,7 +19,7 @@ use crate::operands::number;
 use crate::push::{choose, put};
 use crate::stop::Stop;
 use c_interp_def::{Flow, Stage, StmtTask, Task};
-use c_interp_value::{truth, used};
+use c_interp_store::{truth, used};
 use c_typed::{ExprForm, Group, Item, StmtForm, TExpr, TStmt, Variable};
 use val_core::Value;
 
@@ -54,7 +54,7 @@ pub(crate) fn expand<'a>(machine: &mut Machine<'a>, bound: u64, a: &'a TStmt) ->
     ensures { (p : ProgramTree) → IsStep p bound result machine.old machine.new
         (stmt_task_run p bound (stmt.run_stmt a.now)) }
 {
-    c_interp_expand::run_stmt(a, bound, &mut machine.tasks)?;
+    c_interp_answer::run_stmt(a, bound, &mut machine.tasks)?;
     Ok(())
 }
 
@@ -118,7 +118,7 @@ pub(crate) fn expand_items<'a>(
 {
     let function = machine.frame.function;
     let count = machine.slots.len();
-    c_interp_expand::run_items(
+    c_interp_answer::run_items(
         items,
         variables(program, function),
         numbers(program, function),

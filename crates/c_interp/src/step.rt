@@ -4,12 +4,12 @@ ghost use Rattle.std.specs.Prelude.{◌≡◌, ◌≤◌, ℕ, Bool, true, Optio
 ghost use Rattle.c_typed.specs.Typed.{ProgramTree};
 ghost use Rattle.cc_io.specs.Faults.{Increased};
 ghost use Rattle.cc_io.specs.Source.{IsAtEnd};
-ghost use Rattle.c_interp_expand.specs.TaskViews.{expr_task_of, stmt_task_of, handler_of, on_stmt, task_of, flow_of};
+ghost use Rattle.c_interp_answer.specs.TaskViews.{expr_task_of, stmt_task_of, handler_of, on_stmt, task_of, flow_of};
 ghost use Rattle.c_interp_def.specs.declared.task.Flow.TheVariants.{Normal};
 ghost use Rattle.c_interp_def.specs.ExprTasks as task;
 ghost use Rattle.c_interp_def.specs.ExprTasks.{expr_task_run};
 ghost use Rattle.c_interp_def.specs.StmtTasks.{of_stmt, stmt_task_run, handler_run};
-ghost use Rattle.c_interp_layout.specs.Laid.{IsLaid};
+ghost use Rattle.c_interp_store.specs.Laid.{IsLaid};
 ghost use Rattle.c_interp.specs.Steps.{IsStep, task_from};
 ghost use Rattle.c_interp.specs.Ports.{IsQuiet, IsStepAt};
 

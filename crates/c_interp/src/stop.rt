@@ -3,7 +3,7 @@
 ghost use Rattle.std.specs.Prelude.{◌≡◌};
 ghost use Rattle.c_interp.specs.declared.stop.Stop.TheVariants as stop;
 
-use no_memory::NoMemory;
+use base::NoMemory;
 use std::alloc::{AllocError, AllocFailed};
 
 /// How the run of a program ends within its bound: with a status; cut, since the bound did not

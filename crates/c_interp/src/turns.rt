@@ -2,11 +2,11 @@
 
 ghost use Rattle.std.specs.Prelude.{◌≡◌, ℕ, ◌∷◌};
 ghost use Rattle.c_typed.specs.Typed.{ProgramTree, some_expr};
-ghost use Rattle.c_interp_expand.specs.TaskViews.{flow_of};
+ghost use Rattle.c_interp_answer.specs.TaskViews.{flow_of};
 ghost use Rattle.c_interp_def.specs.declared.task.Flow.TheVariants.{Normal};
 ghost use Rattle.c_interp_def.specs.StmtTasks as stmt;
 ghost use Rattle.c_interp_def.specs.StmtTasks.{of_stmt, stmt_task_run, handler_run, turn_tasks, again_tasks, optional_tasks};
-ghost use Rattle.c_interp_layout.specs.Laid.{IsLaid};
+ghost use Rattle.c_interp_store.specs.Laid.{IsLaid};
 ghost use Rattle.c_interp.specs.Steps.{IsStep, tasks_do, turns_do, asked_do};
 
 use crate::machine::{Machine, Program};
@@ -15,7 +15,7 @@ use crate::perform::{evaluate_and_drop, performed};
 use crate::push::put;
 use crate::stop::Stop;
 use c_interp_def::{Flow, Stage, StmtTask, Task};
-use c_interp_value::truth;
+use c_interp_store::truth;
 use c_type::CType;
 use c_typed::{StmtForm, TExpr, TStmt};
 
@@ -161,7 +161,7 @@ fn put_again<'a>(machine: &mut Machine<'a>, turns: u64, a: &'a TStmt) -> Result<
     ensures { (p : ProgramTree) (n : ℕ)
         → IsStep p n result machine.old machine.new (tasks_do p n (again_tasks turns a.now)) }
 {
-    c_interp_expand::again(turns, a, &mut machine.tasks)?;
+    c_interp_answer::again(turns, a, &mut machine.tasks)?;
     Ok(())
 }
 

@@ -1,2 +1,3 @@
 pub mod Known
 pub mod Arms
+pub mod Pushed

@@ -13,9 +13,9 @@ use Rattle.c_typed.specs.WellTyped.{type_of}
 use Rattle.c_mean.specs.State.{Slot, holds, object, State, gives, with_slots, extended, is_defined_on, truth}
 use Rattle.c_mean.specs.Expressions.{Context, at_address, found, given_word, expr_run, place_run}
 use Rattle.c_interp_store.specs.Holding.{Opened, Holds}
-use Rattle.c_interp_value.specs.Operators.{used_value}
-use Rattle.c_interp_layout.specs.Laid.{sizes_in}
-use Rattle.c_interp_expand.specs.TaskViews.{slots_of}
+use Rattle.c_interp_store.specs.Operators.{used_value}
+use Rattle.c_interp_store.specs.Laid.{sizes_in}
+use Rattle.c_interp_answer.specs.TaskViews.{slots_of}
 use Rattle.c_interp_answer.specs.declared.scope.Scope.{Scope}
 use Rattle.c_interp_answer.specs.declared.assignment.WordVariable.{WordVariable}
 use Rattle.c_interp_answer.specs.declared.assignment.Assignment.{Assignment}

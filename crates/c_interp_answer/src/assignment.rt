@@ -5,10 +5,10 @@ ghost use Rattle.c_type.specs.Trees.{TypeTree};
 ghost use Rattle.c_typed.specs.Typed.{expr, assign, compound, inc_dec};
 ghost use Rattle.c_typed.specs.declared.operator.CompoundOp.TheVariants as compound_op;
 ghost use Rattle.c_typed.specs.WellTyped.{step_op};
-ghost use Rattle.c_interp_expand.specs.TaskViews.{slots_of};
+ghost use Rattle.c_interp_answer.specs.TaskViews.{slots_of};
 ghost use Rattle.c_interp_answer.specs.Answered.{Tells, place_slot, place_variable, IsWritten};
 
-use crate::expression::word;
+use crate::answered_expression::word;
 use crate::number::{arithmetic_word, converted_word, is_pointer};
 use crate::scope::Scope;
 use c_interp_def::Slot;

@@ -1,387 +1,233 @@
-//! Expressions and places (ISO/IEC 9899:2011, 6.5), as far as they are answered at once.
+//! Expressions and places (ISO/IEC 9899:2011, 6.5).
 
-ghost use Rattle.c_type.specs.Trees.{TypeTree};
-ghost use Rattle.c_typed.specs.Typed.{expr, read, unary, binary};
-ghost use Rattle.c_typed.specs.declared.operator.BinaryOp.TheVariants as binary_op;
-ghost use Rattle.c_interp_answer.specs.Answered.{Tells, IsWord, IsValue, IsTruth, IsTruthWord, IsAddress};
+#![tactic(auto, using(crate::proofs::Pushed::pushed_none))]
 
-use crate::number::{binary_words, is_pointer, number, one_if, takes_words, unary_word};
-use crate::read::{loaded, loaded_word, slot_address, variable_value, variable_word};
-use crate::scope::Scope;
-use c_interp_value::{binary, member_address, pointer_moved, truth, unary, used};
+ghost use Rattle.std.specs.Prelude.{◌≡◌, [], ◌∷◌, ◌++◌, OnOk, slice_get};
+ghost use Rattle.c_typed.specs.Typed.{exprs_of};
+ghost use Rattle.c_interp_answer.specs.TaskViews.{tasks_of, slots_of};
+ghost use Rattle.c_interp_def.specs.ExprTasks as task;
+ghost use Rattle.c_interp_def.specs.ExprTasks.{count_of, value_slot, holds_value, expr_tasks, place_tasks_of, read_tasks, assign_tasks, compound_tasks, step_tasks, unary_tasks, dropped_tasks, passed_tasks};
+ghost use Rattle.c_interp_def.specs.Laws.{of_exprs};
+
+use crate::push::{push, push2, push3, push4};
+use base::NoMemory;
+use c_interp_def::{ExprTask, Slot, Task};
 use c_type::CType;
-use c_typed::{BinaryOp, ExprForm, PlaceForm, TExpr, TPlace, UnaryOp};
-use val_core::Value;
+use c_typed::{CompoundOp, ExprForm, IncDec, PlaceForm, TExpr, TPlace, UnaryOp};
 
-/// The number that an expression gives, where that is known at once; it is looked into so deep.
-#[cycle(answer)]
-pub fn word<'a>(scope: &Scope<'a>, e: &TExpr, depth: u32) -> Option<u32>
-    ensures { Tells scope.now (λ c s. IsWord c e.now s result) }
+// The slot of a value variable, where the place is one.
+fn value_slot(p: &TPlace, slots: &[Slot]) -> Option<u32>
+    ensures { result ≡ value_slot (slots_of slots.now) p.now }
 {
-    operand(scope, e, depth)
+    match &p.form {
+        PlaceForm::Local(k) => holds_value(*k, slots),
+        _ => None,
+    }
 }
 
-// The same, within the functions of operators: most operands are constants and variables.
-#[cycle(answer)]
-#[inline(always)]
-fn operand<'a>(scope: &Scope<'a>, e: &TExpr, depth: u32) -> Option<u32>
-    ensures { Tells scope.now (λ c s. IsWord c e.now s result) }
+fn holds_value(k: u32, slots: &[Slot]) -> Option<u32>
+    ensures { result ≡ holds_value k (slice_get (slots_of slots.now) k) }
 {
+    match slots.get(k as usize) {
+        Some(Slot::Holds(_)) => Some(k),
+        _ => None,
+    }
+}
+
+/// The tasks of an expression, where these variables are in scope.
+pub fn evaluate<'a>(e: &'a TExpr, slots: &[Slot], tasks: &mut Vec<Task<'a>>) -> Result<(), NoMemory>
+    ensures { OnOk result (tasks_of tasks.new.items
+        ≡ tasks_of tasks.old.items ++ of_exprs (expr_tasks (slots_of slots.now) e.now)) }
+{
+    let t: &CType = &e.ty;
     match &e.form {
-        ExprForm::Constant(w) => Some(*w),
-        ExprForm::Read(p) => match variable_word(scope.slots, p) {
-            Some(w) => Some(w),
-            None => object_word(scope, &e.ty, p, depth),
-        },
-        ExprForm::Unary(op, a) => operand_word(scope, *op, &e.ty, a, depth),
-        ExprForm::Binary(op, a, b) => binary_word(scope, *op, a, b, depth),
-        ExprForm::LogicalAnd(..) | ExprForm::LogicalOr(..) | ExprForm::Conditional(..) => {
-            operator_word(scope, e, depth)
+        ExprForm::Constant(w) => push(tasks, ExprTask::Give(*w)),
+        ExprForm::Read(p) => read(t, p, value_slot(p, slots), tasks),
+        ExprForm::Address(p) => push(tasks, ExprTask::Locate(p)),
+        ExprForm::Unary(op, a) => unary(*op, t, a, tasks),
+        ExprForm::Binary(op, a, b) => push3(
+            tasks,
+            ExprTask::Binary(*op, &a.ty, &b.ty),
+            ExprTask::Evaluate(b),
+            ExprTask::Evaluate(a),
+        ),
+        ExprForm::LogicalAnd(a, b) => {
+            push2(tasks, ExprTask::AndAlso(&a.ty, b), ExprTask::Evaluate(a))
         }
-        _ => None,
+        ExprForm::LogicalOr(a, b) => {
+            push2(tasks, ExprTask::OrElse(&a.ty, b), ExprTask::Evaluate(a))
+        }
+        ExprForm::Conditional(c, a, b) => {
+            push2(tasks, ExprTask::Choose(&c.ty, a, b), ExprTask::Evaluate(c))
+        }
+        ExprForm::Comma(es, last) => {
+            push2(tasks, ExprTask::Evaluate(last), ExprTask::DropEach(es))
+        }
+        ExprForm::Assign(p, a) => assign(t, p, a, value_slot(p, slots), tasks),
+        ExprForm::Compound(op, p, a) => compound(*op, t, p, a, value_slot(p, slots), tasks),
+        ExprForm::IncDec(step, p) => inc_dec(*step, t, p, value_slot(p, slots), tasks),
+        ExprForm::Call(f, es) => call(*f, es, tasks),
+        ExprForm::Get => push(tasks, ExprTask::ReadByte),
     }
 }
 
-// The number that an object holds. One to which a variable points is read at once.
-#[cycle(answer)]
-#[inline(never)]
-fn object_word<'a>(scope: &Scope<'a>, t: &CType, p: &TPlace, depth: u32) -> Option<u32>
-    ensures { Tells scope.now (λ c s. IsWord c (expr t.now (read p.now)) s result) }
+fn read<'a>(
+    t: &'a CType,
+    p: &'a TPlace,
+    slot: Option<u32>,
+    tasks: &mut Vec<Task<'a>>,
+) -> Result<(), NoMemory>
+    ensures { OnOk result (tasks_of tasks.new.items
+        ≡ tasks_of tasks.old.items ++ of_exprs (read_tasks t.now p.now slot)) }
 {
-    match pointed(scope, p) {
-        Some(at) => loaded_word(scope.store, t, at),
-        None => located_word(scope, t, p, depth),
+    match slot {
+        Some(k) => push(tasks, ExprTask::LoadSlot(k, t)),
+        None => push2(tasks, ExprTask::LoadFrom(t), ExprTask::Locate(p)),
     }
 }
 
-// The same of another object; apart, so that the one before is short.
-#[cycle(answer)]
-#[inline(never)]
-fn located_word<'a>(scope: &Scope<'a>, t: &CType, p: &TPlace, depth: u32) -> Option<u32>
-    ensures { Tells scope.now (λ c s. IsWord c (expr t.now (read p.now)) s result) }
+fn unary<'a>(
+    op: UnaryOp,
+    t: &'a CType,
+    a: &'a TExpr,
+    tasks: &mut Vec<Task<'a>>,
+) -> Result<(), NoMemory>
+    ensures { OnOk result (tasks_of tasks.new.items
+        ≡ tasks_of tasks.old.items ++ of_exprs (unary_tasks op t.now a.now)) }
 {
-    match address(scope, p, depth) {
-        Some(at) => loaded_word(scope.store, t, at),
-        None => None,
-    }
-}
-
-#[cycle(answer)]
-#[inline(never)]
-fn operator_word<'a>(scope: &Scope<'a>, e: &TExpr, depth: u32) -> Option<u32>
-    ensures { Tells scope.now (λ c s. IsWord c e.now s result) }
-{
-    if depth == 0 || waits(e) {
-        return None;
-    }
-    match &e.form {
-        ExprForm::LogicalAnd(a, b) => match asked(scope, a, depth - 1) {
-            Some(true) => truth_word(scope, b, depth - 1),
-            Some(false) => Some(0),
-            None => None,
-        },
-        ExprForm::LogicalOr(a, b) => match asked(scope, a, depth - 1) {
-            Some(true) => Some(1),
-            Some(false) => truth_word(scope, b, depth - 1),
-            None => None,
-        },
-        ExprForm::Conditional(d, a, b) => match asked(scope, d, depth - 1) {
-            Some(true) => word(scope, a, depth - 1),
-            Some(false) => word(scope, b, depth - 1),
-            None => None,
-        },
-        _ => None,
-    }
-}
-
-// Whether it is `&&` or `||` whose right operand is a call: then the left one is not looked into.
-fn waits(e: &TExpr) -> bool {
-    match &e.form {
-        ExprForm::LogicalAnd(_, b) | ExprForm::LogicalOr(_, b) => calls(b),
-        _ => false,
-    }
-}
-
-// Whether an expression is a call, or a unary operator on one.
-fn calls(e: &TExpr) -> bool {
-    match &e.form {
-        ExprForm::Call(..) => true,
-        ExprForm::Unary(_, a) => matches!(&a.form, ExprForm::Call(..)),
-        _ => false,
-    }
-}
-
-#[cycle(answer)]
-#[inline(never)]
-fn operand_word<'a>(scope: &Scope<'a>, op: UnaryOp, t: &CType, a: &TExpr, depth: u32) -> Option<u32>
-    ensures { Tells scope.now (λ c s. IsWord c (expr t.now (unary op a.now)) s result) }
-{
-    if depth == 0 {
-        return None;
-    }
     match op {
-        UnaryOp::LogicalNot => match asked(scope, a, depth - 1) {
-            Some(d) => Some(one_if(!d)),
-            None => None,
-        },
-        _ => match operand(scope, a, depth - 1) {
-            Some(x) => unary_word(op, t, x),
-            None => None,
-        },
+        UnaryOp::Put => push2(tasks, ExprTask::WriteByte, ExprTask::Evaluate(a)),
+        UnaryOp::Exit => push2(tasks, ExprTask::EndProgram, ExprTask::Evaluate(a)),
+        _ => push2(tasks, ExprTask::Unary(op, t, &a.ty), ExprTask::Evaluate(a)),
     }
 }
 
-// 1 or 0 by the truth of an expression.
-#[cycle(answer)]
-fn truth_word<'a>(scope: &Scope<'a>, e: &TExpr, depth: u32) -> Option<u32>
-    ensures { Tells scope.now (λ c s. IsTruthWord c e.now s result) }
+fn assign<'a>(
+    t: &'a CType,
+    p: &'a TPlace,
+    e: &'a TExpr,
+    slot: Option<u32>,
+    tasks: &mut Vec<Task<'a>>,
+) -> Result<(), NoMemory>
+    ensures { OnOk result (tasks_of tasks.new.items
+        ≡ tasks_of tasks.old.items ++ of_exprs (assign_tasks t.now p.now e.now slot)) }
 {
-    match asked(scope, e, depth) {
-        Some(d) => Some(one_if(d)),
-        None => None,
+    match slot {
+        Some(k) => push2(tasks, ExprTask::StoreSlot(k, t), ExprTask::Evaluate(e)),
+        None => push3(
+            tasks,
+            ExprTask::StoreAt(t),
+            ExprTask::Evaluate(e),
+            ExprTask::Locate(p),
+        ),
     }
 }
 
-#[cycle(answer)]
-#[inline(never)]
-fn binary_word<'a>(scope: &Scope<'a>, op: BinaryOp, a: &TExpr, b: &TExpr, depth: u32) -> Option<u32>
-    ensures { (t : TypeTree) →
-        Tells scope.now (λ c s. IsWord c (expr t (binary op a.now b.now)) s result) }
+fn compound<'a>(
+    op: CompoundOp,
+    t: &'a CType,
+    p: &'a TPlace,
+    e: &'a TExpr,
+    slot: Option<u32>,
+    tasks: &mut Vec<Task<'a>>,
+) -> Result<(), NoMemory>
+    ensures { OnOk result (tasks_of tasks.new.items
+        ≡ tasks_of tasks.old.items ++ of_exprs (compound_tasks op t.now p.now e.now slot)) }
 {
-    if depth == 0 {
-        return None;
-    }
-    if takes_words(op, &a.ty) {
-        let x = operand(scope, a, depth - 1)?;
-        let y = operand(scope, b, depth - 1)?;
-        binary_words(op, &a.ty, x, y)
-    } else {
-        pointers_word(scope, op, a, b, depth - 1)
+    match slot {
+        Some(k) => push3(
+            tasks,
+            ExprTask::CompoundSlot(k, op, t, &e.ty),
+            ExprTask::Evaluate(e),
+            ExprTask::LoadSlot(k, t),
+        ),
+        None => push4(
+            tasks,
+            ExprTask::CompoundAt(op, t, &e.ty),
+            ExprTask::Evaluate(e),
+            ExprTask::LoadAt(t),
+            ExprTask::Locate(p),
+        ),
     }
 }
 
-// The same, where an operand may be an address.
-#[cycle(answer)]
-#[inline(never)]
-fn pointers_word<'a>(
-    scope: &Scope<'a>,
-    op: BinaryOp,
-    a: &TExpr,
-    b: &TExpr,
-    depth: u32,
-) -> Option<u32>
-    ensures { (t : TypeTree) →
-        Tells scope.now (λ c s. IsWord c (expr t (binary op a.now b.now)) s result) }
+#[tactic(auto, using(crate::proofs::Pushed::count_is))]
+fn call<'a>(f: u32, es: &'a [TExpr], tasks: &mut Vec<Task<'a>>) -> Result<(), NoMemory>
+    ensures { OnOk result (tasks_of tasks.new.items ≡ tasks_of tasks.old.items
+        ++ of_exprs (task.call f (count_of (exprs_of es.now))
+        ∷ task.pass_each (exprs_of es.now) ∷ [])) }
 {
-    let x = answer(scope, a, depth)?;
-    let y = answer(scope, b, depth)?;
-    let v = binary(scope.store, op, &a.ty, &b.ty, x, y)?;
-    number(v)
+    push2(tasks, ExprTask::Call(f, es.len()), ExprTask::PassEach(es))
 }
 
-/// Whether an expression is true, where that is known at once; it is looked into so deep.
-#[cycle(answer)]
-pub fn asked<'a>(scope: &Scope<'a>, e: &TExpr, depth: u32) -> Option<bool>
-    ensures { Tells scope.now (λ c s. IsTruth c e.now s result) }
+fn inc_dec<'a>(
+    step: IncDec,
+    t: &'a CType,
+    p: &'a TPlace,
+    slot: Option<u32>,
+    tasks: &mut Vec<Task<'a>>,
+) -> Result<(), NoMemory>
+    ensures { OnOk result (tasks_of tasks.new.items
+        ≡ tasks_of tasks.old.items ++ of_exprs (step_tasks step t.now p.now slot)) }
 {
-    if is_pointer(&e.ty) {
-        match value(scope, e, depth) {
-            Some(v) => truth(&e.ty, v),
-            None => None,
-        }
-    } else {
-        match word(scope, e, depth) {
-            Some(w) => Some(w != 0),
-            None => None,
-        }
+    match slot {
+        Some(k) => push2(
+            tasks,
+            ExprTask::StepSlot(k, step, t),
+            ExprTask::LoadSlot(k, t),
+        ),
+        None => push3(
+            tasks,
+            ExprTask::StepAt(step, t),
+            ExprTask::LoadAt(t),
+            ExprTask::Locate(p),
+        ),
     }
 }
 
-/// The value that an expression gives, where that is known at once; it is looked into so deep.
-#[cycle(answer)]
-pub fn answer<'a>(scope: &Scope<'a>, e: &TExpr, depth: u32) -> Option<Value>
-    ensures { Tells scope.now (λ c s. IsValue c e.now s result) }
-{
-    if is_pointer(&e.ty) {
-        value(scope, e, depth)
-    } else {
-        match word(scope, e, depth) {
-            Some(w) => Some(Value::Num(w)),
-            None => None,
-        }
-    }
-}
-
-// The same, where it may be an address. What is known without a call is returned at once: it then
-// needs no memory.
-#[cycle(answer)]
-fn value<'a>(scope: &Scope<'a>, e: &TExpr, depth: u32) -> Option<Value>
-    ensures { Tells scope.now (λ c s. IsValue c e.now s result) }
-{
-    match &e.form {
-        ExprForm::Constant(w) => Some(Value::Num(*w)),
-        ExprForm::Read(p) => match variable_value(scope.slots, p) {
-            Some(v) => return Some(v),
-            None => object_value(scope, &e.ty, p, depth),
-        },
-        ExprForm::Address(p) => return address(scope, p, depth),
-        ExprForm::Binary(op, a, b) => binary_value(scope, *op, a, b, depth),
-        ExprForm::Unary(..) | ExprForm::Conditional(..) => operator_value(scope, e, depth),
-        _ => None,
-    }
-}
-
-// The value that an object holds.
-#[cycle(answer)]
-#[inline(never)]
-fn object_value<'a>(scope: &Scope<'a>, t: &CType, p: &TPlace, depth: u32) -> Option<Value>
-    ensures { Tells scope.now (λ c s. IsValue c (expr t.now (read p.now)) s result) }
-{
-    match address(scope, p, depth) {
-        Some(at) => loaded(scope.store, t, at),
-        None => None,
-    }
-}
-
-// The value that a binary operator gives.
-#[cycle(answer)]
-#[inline(always)]
-fn binary_value<'a>(
-    scope: &Scope<'a>,
-    op: BinaryOp,
-    a: &TExpr,
-    b: &TExpr,
-    depth: u32,
-) -> Option<Value>
-    ensures { (t : TypeTree) →
-        Tells scope.now (λ c s. IsValue c (expr t (binary op a.now b.now)) s result) }
-{
-    if depth == 0 {
-        return None;
-    }
-    match op {
-        BinaryOp::PointerPlus(size) => element(scope, size, a, b, depth - 1),
-        _ => operated_value(scope, op, a, b, depth - 1),
-    }
-}
-
-// The address of an element, counted from one that the left operand gives. An index that is not
-// known, as often where it changes a variable, is seen first.
-#[cycle(answer)]
-#[inline(never)]
-fn element<'a>(scope: &Scope<'a>, size: u32, a: &TExpr, b: &TExpr, depth: u32) -> Option<Value>
-    ensures { (t : TypeTree) → Tells scope.now
-        (λ c s. IsValue c (expr t (binary (binary_op.PointerPlus size) a.now b.now)) s result) }
-{
-    let w = word(scope, b, depth)?;
-    let x = value(scope, a, depth)?;
-    pointer_moved(scope.store, true, size, &b.ty, x, Value::Num(w))
-}
-
-// The same of another operator.
-#[cycle(answer)]
-#[inline(never)]
-fn operated_value<'a>(
-    scope: &Scope<'a>,
-    op: BinaryOp,
-    a: &TExpr,
-    b: &TExpr,
-    depth: u32,
-) -> Option<Value>
-    ensures { (t : TypeTree) →
-        Tells scope.now (λ c s. IsValue c (expr t (binary op a.now b.now)) s result) }
-{
-    let x = answer(scope, a, depth)?;
-    let y = answer(scope, b, depth)?;
-    binary(scope.store, op, &a.ty, &b.ty, x, y)
-}
-
-#[cycle(answer)]
-#[inline(never)]
-fn operator_value<'a>(scope: &Scope<'a>, e: &TExpr, depth: u32) -> Option<Value>
-    ensures { Tells scope.now (λ c s. IsValue c e.now s result) }
-{
-    if depth == 0 {
-        return None;
-    }
-    match &e.form {
-        ExprForm::Unary(UnaryOp::Convert, a) => {
-            let x = answer(scope, a, depth - 1)?;
-            unary(UnaryOp::Convert, &e.ty, &a.ty, x)
-        }
-        ExprForm::Conditional(d, a, b) => match asked(scope, d, depth - 1) {
-            Some(true) => answer(scope, a, depth - 1),
-            Some(false) => answer(scope, b, depth - 1),
-            None => None,
-        },
-        _ => None,
-    }
-}
-
-// The address of an object to which a variable points.
-fn pointed<'a>(scope: &Scope<'a>, p: &TPlace) -> Option<Value>
-    ensures { Tells scope.now (λ c s. IsAddress c p.now s result) }
+/// The tasks of a place whose address is wanted.
+pub fn locate<'a>(p: &'a TPlace, tasks: &mut Vec<Task<'a>>) -> Result<(), NoMemory>
+    ensures { OnOk result (tasks_of tasks.new.items
+        ≡ tasks_of tasks.old.items ++ of_exprs (place_tasks_of p.now)) }
 {
     match &p.form {
-        PlaceForm::At(e) => match variable(scope, e) {
-            Some(v) => used(v),
-            None => None,
-        },
-        _ => None,
+        PlaceForm::Local(k) => push(tasks, ExprTask::LocalAt(*k)),
+        PlaceForm::Global(k) => push(tasks, ExprTask::GlobalAt(*k)),
+        PlaceForm::At(e) => push2(tasks, ExprTask::UseIt, ExprTask::Evaluate(e)),
+        PlaceForm::Member(q, offset) => {
+            push2(tasks, ExprTask::MemberAt(*offset), ExprTask::Locate(q))
+        }
     }
 }
 
-// The value of a variable, where the expression reads one.
-fn variable<'a>(scope: &Scope<'a>, e: &TExpr) -> Option<Value>
-    ensures { Tells scope.now (λ c s. IsValue c e.now s result) }
+/// The tasks of expressions whose values are dropped.
+pub fn drop_each<'a>(es: &'a [TExpr], tasks: &mut Vec<Task<'a>>) -> Result<(), NoMemory>
+    ensures { OnOk result (tasks_of tasks.new.items
+        ≡ tasks_of tasks.old.items ++ of_exprs (dropped_tasks (exprs_of es.now))) }
 {
-    match &e.form {
-        ExprForm::Read(p) => variable_value(scope.slots, p),
-        _ => None,
+    match es.split_first() {
+        Some((e, rest)) => push3(
+            tasks,
+            ExprTask::DropEach(rest),
+            ExprTask::Discard,
+            ExprTask::Evaluate(e),
+        ),
+        None => Ok(()),
     }
 }
 
-/// The address of a place, where that is known at once; it is looked into so deep.
-#[cycle(answer)]
-#[inline(always)]
-pub fn address<'a>(scope: &Scope<'a>, p: &TPlace, depth: u32) -> Option<Value>
-    ensures { Tells scope.now (λ c s. IsAddress c p.now s result) }
+/// The tasks of arguments.
+pub fn pass_each<'a>(es: &'a [TExpr], tasks: &mut Vec<Task<'a>>) -> Result<(), NoMemory>
+    ensures { OnOk result (tasks_of tasks.new.items
+        ≡ tasks_of tasks.old.items ++ of_exprs (passed_tasks (exprs_of es.now))) }
 {
-    match &p.form {
-        PlaceForm::Local(k) => slot_address(scope, *k),
-        PlaceForm::Global(k) => return Some(scope.layouts.global(*k)),
-        _ => inner_address(scope, p, depth),
-    }
-}
-
-// The same of a place that is no variable; apart, so that the one before is short.
-#[cycle(answer)]
-#[inline(never)]
-fn inner_address<'a>(scope: &Scope<'a>, p: &TPlace, depth: u32) -> Option<Value>
-    ensures { Tells scope.now (λ c s. IsAddress c p.now s result) }
-{
-    if depth == 0 {
-        return None;
-    }
-    match &p.form {
-        PlaceForm::At(e) if steps(e) => None,
-        PlaceForm::At(e) => match value(scope, e, depth - 1) {
-            Some(v) => used(v),
-            None => None,
-        },
-        PlaceForm::Member(q, offset) => match address(scope, q, depth - 1) {
-            Some(at) => member_address(scope.store, at, *offset),
-            None => None,
-        },
-        _ => None,
-    }
-}
-
-// Whether an expression is an operator whose right operand is `++` or `--`, as in `p[i++]`: then it
-// is not looked into.
-fn steps(e: &TExpr) -> bool {
-    match &e.form {
-        ExprForm::Binary(_, _, b) => matches!(&b.form, ExprForm::IncDec(..)),
-        _ => false,
+    match es.split_first() {
+        Some((e, rest)) => push3(
+            tasks,
+            ExprTask::PassEach(rest),
+            ExprTask::UseIt,
+            ExprTask::Evaluate(e),
+        ),
+        None => Ok(()),
     }
 }

@@ -8,7 +8,7 @@ ghost use Rattle.c_mean.specs.State.{State, is_pointer, converted, is_defined_on
 ghost use Rattle.c_mean.specs.Expressions.{unary_done, binary_done, given_word};
 ghost use Rattle.c_interp_answer.specs.Answered.{number, defined_word};
 
-use c_interp_value::converted;
+use c_interp_store::converted;
 use c_type::{CType, Scalar, TypeForm};
 use c_typed::{BinaryOp, Relation, UnaryOp};
 use val_core::{Op2, Value, op2};

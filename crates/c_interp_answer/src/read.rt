@@ -3,14 +3,13 @@
 ghost use Rattle.std.specs.Prelude.{◌≡◌, List};
 ghost use Rattle.val_core.specs.Memory.{Memory};
 ghost use Rattle.c_interp_store.specs.Holding.{Opened, Holds};
-ghost use Rattle.c_interp_expand.specs.TaskViews.{slots_of};
+ghost use Rattle.c_interp_answer.specs.TaskViews.{slots_of};
 ghost use Rattle.c_interp_answer.specs.Answered.{place_word, place_value, loaded_value, loaded_word, place_address, object_in};
 
 use crate::number::number;
 use crate::scope::Scope;
 use c_interp_def::Slot;
-use c_interp_store::Store;
-use c_interp_value::{access_width, extended, used};
+use c_interp_store::{Store, access_width, extended, used};
 use c_type::CType;
 use c_typed::{PlaceForm, TPlace};
 use val_core::Value;

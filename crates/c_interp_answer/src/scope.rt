@@ -3,8 +3,7 @@
 ghost use Rattle.std.specs.Prelude.{◌<◌, ◌^◌};
 
 use c_interp_def::Slot;
-use c_interp_layout::Layouts;
-use c_interp_store::Store;
+use c_interp_store::{Layouts, Store};
 
 /// What an expression is read from: the memory, the variables in scope of a call, the layouts of
 /// the program, the function that is called, and the number of the first block of the call.

@@ -1,6 +1,6 @@
 //! Tasks, slots and flows of the code, which refer to the typed program.
 
-use c_lex::Bytes;
+use base::Bytes;
 use c_type::CType;
 use c_typed::{BinaryOp, CompoundOp, Element, Group, IncDec, Item, TExpr, TPlace, TStmt, UnaryOp};
 use val_core::Value;

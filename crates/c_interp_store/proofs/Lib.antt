@@ -1,3 +1,7 @@
+mod Leaves
+mod Numbers
+mod Written
+mod GlobalCells
 mod Ascending
 mod Cells
 mod Blocks
@@ -5,3 +9,4 @@ mod Lifetimes
 mod Calls
 mod Holding
 mod Shapes
+mod Products

@@ -12,7 +12,7 @@ use crate::block::Block;
 use crate::cell::Cell;
 use crate::objects::Objects;
 use crate::shape::Shape;
-use no_memory::NoMemory;
+use base::NoMemory;
 use std::alloc::Global;
 use val_core::Leaf;
 

@@ -5,7 +5,7 @@ use Rattle.std.specs.Option.{ok_or, option_map_or}
 use Rattle.std.specs.List.{list_all, prefix_len}
 use Rattle.std.proofs.lemmas.Bool.{cases_lt, ltb-false, lt-ltb, le-ltb, not-true}
 use Rattle.std.proofs.lemmas.List.{length-take-le, length-drop, length-append, take-append-drop, drop_all, drop-drop, append-nil}
-use Rattle.limits.specs.Limits.{most_source_bytes, most_tokens}
+use Rattle.base.specs.Limits.{most_source_bytes, most_tokens}
 use Rattle.c_lex.specs.Results.{◌>>=◌}
 use Rattle.c_lex.specs.Classes.{is_line_end, is_inner_blank}
 use Rattle.c_lex.specs.Trivia.{comment_at, comment_end, line_comment, include_len, past_include, ends_line}

@@ -2,7 +2,7 @@
 use Rattle.std.proofs.Common.{◌≡◌, ℕ, zero, suc, ◌+◌, ◌-◌, ◌<◌, ◌≤◌, Bool, true, false, cond, ltb, List, [], ◌∷◌, ◌++◌, length, drop, Result, Ok, Err, refl, sym, ap, ◌∙◌, append_assoc, add-zero, zero-add, arith, inl, inr}
 use Rattle.std.specs.Prelude.{IfOk}
 use Rattle.std.proofs.lemmas.List.{drop_all, drop-drop, append-nil}
-use Rattle.limits.specs.Limits.{most_source_bytes, most_tokens}
+use Rattle.base.specs.Limits.{most_source_bytes, most_tokens}
 use Rattle.c_lex.specs.Results.{◌>>=◌, Gives}
 use Rattle.std.proofs.lemmas.Bool.{lt-ltb, le-ltb, ltb-true}
 use Rattle.c_lex.specs.Trivia.{include_len}

@@ -6,7 +6,7 @@ use Rattle.std.specs.List.{prefix_len, starts_with}
 use Rattle.std.proofs.lemmas.Bool.{lt-ltb, le-ltb, false_from_ne_true, ne_eqb}
 use Rattle.std.proofs.lemmas.List.{length-take, length-take-le, take-append-drop, take_at}
 use Rattle.std.proofs.lemmas.List.Sums.{prefix_len-le-length}
-use Rattle.limits.specs.Limits.{most_name_bytes, most_tokens}
+use Rattle.base.specs.Limits.{most_name_bytes, most_tokens}
 use Rattle.c_lex.specs.Results.{◌>>=◌}
 use Rattle.c_lex.specs.Classes.{is_letter, is_digit, is_name_byte, is_number_byte, is_line_end, is_inner_blank}
 use Rattle.c_lex.specs.Keywords.{keyword_of}

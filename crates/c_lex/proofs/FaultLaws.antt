@@ -6,7 +6,7 @@ use Rattle.std.specs.List.{starts_with, prefix_len}
 use Rattle.std.proofs.lemmas.Bool.{ltb-true, ltb-false, eqb-false, eqb-true}
 use Rattle.std.proofs.lemmas.List.{length-take-le, take-append-drop, drop_all}
 use Rattle.std.proofs.lemmas.List.Sums.{prefix_len-le-length}
-use Rattle.limits.specs.Limits.{most_name_bytes, most_tokens}
+use Rattle.base.specs.Limits.{most_name_bytes, most_tokens}
 use Rattle.c_lex.specs.Results.{◌>>=◌}
 use Rattle.c_lex.specs.Classes.{is_letter, is_digit, is_name_byte, is_number_byte, is_line_end, is_inner_blank}
 use Rattle.c_lex.specs.Digits.{is_digit_in, digits_value}

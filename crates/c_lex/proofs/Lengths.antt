@@ -6,7 +6,7 @@ use Rattle.std.specs.List.{starts_with, prefix_len, position_or_len}
 use Rattle.std.proofs.lemmas.List.{length-drop}
 use Rattle.std.proofs.lemmas.List.Sums.{prefix_len-le-length}
 use Rattle.std.proofs.lemmas.Bool.{or_left, or_right, and_parts}
-use Rattle.limits.specs.Limits.{most_name_bytes}
+use Rattle.base.specs.Limits.{most_name_bytes}
 use Rattle.c_lex.specs.Results.{◌>>=◌}
 use Rattle.c_lex.specs.Classes.{is_letter, is_digit, is_name_byte, is_number_byte, is_inner_blank, is_line_end}
 use Rattle.c_lex.specs.Trivia.{comment_end, comment_at, line_comment, include_len, past_include}

@@ -5,7 +5,7 @@ use Rattle.std.specs.Option.{ok_or, option_and_then}
 use Rattle.std.specs.List.{starts_with, prefix_len, position_or_len}
 use Rattle.std.proofs.lemmas.Bool.{cases_lt, ltb-false, ltb-true, or_left, or_right}
 use Rattle.std.proofs.lemmas.List.{drop_all, drop-drop, length-drop}
-use Rattle.limits.specs.Limits.{most_name_bytes, most_source_bytes, most_tokens}
+use Rattle.base.specs.Limits.{most_name_bytes, most_source_bytes, most_tokens}
 use Rattle.c_lex.specs.Results.{◌>>=◌}
 use Rattle.c_lex.specs.Classes.{is_letter, is_digit, is_name_byte, is_number_byte, is_line_end, is_inner_blank}
 use Rattle.c_lex.specs.Trivia.{comment_at, comment_end, line_comment, include_len}

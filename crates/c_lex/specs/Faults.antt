@@ -1,7 +1,7 @@
 -- What is wrong where a fault is reported.
 use Rattle.std.specs.Prelude.{◌≡◌, ◌≢◌, ◌⊎◌, ◌↔◌, ℕ, ◌+◌, ◌<◌, ◌≤◌, true, false, List, [], ◌∷◌, ◌++◌, length, take, drop, nat_eq, slice_index, Some, None, Err, codes}
 use Rattle.std.specs.List.{starts_with}
-use Rattle.limits.specs.Limits.{most_name_bytes, most_source_bytes, most_tokens}
+use Rattle.base.specs.Limits.{most_name_bytes, most_source_bytes, most_tokens}
 use Rattle.c_lex.specs.Classes.{is_inner_blank, is_line_end}
 use Rattle.c_lex.specs.Numbers.{constant_at}
 use Rattle.c_lex.specs.Quoted.{characters}

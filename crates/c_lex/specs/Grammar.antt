@@ -2,7 +2,7 @@
 -- is one, with only blanks, comments and include lines between them (ISO 9899:2011, 6.4).
 use Rattle.std.specs.Prelude.{◌≡◌, ◌≢◌, ◌⊎◌, ◌↔◌, ℕ, ◌+◌, ◌-◌, ◌<◌, ◌≤◌, Bool, true, false, ◌||◌, not, List, [], ◌∷◌, ◌++◌, length, drop, nat_eq, slice_index, slice_range, Some, Ok, codes}
 use Rattle.std.specs.List.{starts_with, list_all}
-use Rattle.limits.specs.Limits.{most_name_bytes, most_source_bytes, most_tokens}
+use Rattle.base.specs.Limits.{most_name_bytes, most_source_bytes, most_tokens}
 use Rattle.c_lex.specs.Classes.{is_letter, is_digit, is_name_byte, is_number_byte, is_inner_blank, is_line_end}
 use Rattle.c_lex.specs.Keywords.{keyword_spelling}
 use Rattle.c_lex.specs.Punctuators.{punct_spelling}

@@ -1,7 +1,7 @@
 -- What stands at the front of a text: a blank, a comment, an include line, a token or a fault.
 use Rattle.std.specs.Prelude.{ℕ, ◌+◌, ◌==◌, nat_lt, nat_eq, List, take, drop, length, slice_index, Option, Some, None, Result, Ok, Err, codes, if◌then◌else◌}
 use Rattle.std.specs.List.{starts_with, prefix_len}
-use Rattle.limits.specs.Limits.{most_name_bytes}
+use Rattle.base.specs.Limits.{most_name_bytes}
 use Rattle.c_lex.specs.Classes.{is_letter, is_digit, is_name_byte, is_inner_blank, is_line_end}
 use Rattle.c_lex.specs.Keywords.{keyword_of}
 use Rattle.c_lex.specs.Punctuators.{punct_at, punct_spelling}

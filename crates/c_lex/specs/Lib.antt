@@ -11,5 +11,3 @@ pub mod Results
 pub mod Quoted
 pub mod Tokens
 pub mod Written
--- What is passed on of the libraries below.
-pub use Rattle.limits.specs as limits

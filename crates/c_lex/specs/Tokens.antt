@@ -1,6 +1,6 @@
 -- The tokens of a source text, or its first fault (ISO 9899:2011, 6.4).
 use Rattle.std.specs.Prelude.{ℕ, zero, suc, ◌+◌, ◌-◌, nat_lt, List, [], ◌∷◌, ◌++◌, length, Result, Ok, Err, if◌then◌else◌}
-use Rattle.limits.specs.Limits.{most_source_bytes, most_tokens}
+use Rattle.base.specs.Limits.{most_source_bytes, most_tokens}
 use Rattle.c_lex.specs.Results.{◌>>=◌}
 use Rattle.c_lex.specs.Trivia.{include_len}
 use Rattle.c_lex.specs.Lexemes.{lexeme_at}

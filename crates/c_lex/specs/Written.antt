@@ -1,6 +1,6 @@
 -- How tokens can be written again.
 use Rattle.std.specs.Prelude.{◌≡◌, ℕ, zero, suc, ◌+◌, ◌/◌, ◌%◌, ◌≤◌, Bool, ◌||◌, ◌==◌, List, [], ◌∷◌, ◌++◌, length, Ok, map, if◌then◌else◌}
-use Rattle.limits.specs.Limits.{most_source_bytes}
+use Rattle.base.specs.Limits.{most_source_bytes}
 use Rattle.c_lex.specs.Keywords.{keyword_spelling}
 use Rattle.c_lex.specs.Punctuators.{punct_spelling}
 use Rattle.c_lex.specs.Tokens.{lexed}

@@ -1,7 +1,7 @@
 //! What stands at the front of a text.
 
 ghost use Rattle.std.specs.Prelude.{◌≡◌, ◌≤◌, ◌<◌, ◌+◌, length, IfOk};
-ghost use Rattle.limits.specs.Limits.{most_source_bytes};
+ghost use Rattle.base.specs.Limits.{most_source_bytes};
 ghost use Rattle.c_lex.specs.Keywords.{keyword_of};
 ghost use Rattle.c_lex.specs.Results.{Gives};
 ghost use Rattle.c_lex.specs.Lexemes as spec;
@@ -12,8 +12,8 @@ use crate::number::number_at;
 use crate::quoted::{char_at, string_at};
 use crate::runs::identifier_len;
 use crate::trivia::{comment_at, include_len, line_comment};
-use crate::{Keyword, LexFault, Name, Punct, TokenKind};
-use limits::MOST_NAME_BYTES;
+use crate::{Keyword, LexFault, Punct, TokenKind};
+use base::{MOST_NAME_BYTES, Name};
 use std::alloc::{AllocError, Global};
 
 /// What stands at the front of a text, with the number of its bytes.

@@ -1,7 +1,7 @@
 //! From a source to its tokens.
 
 ghost use Rattle.std.specs.Prelude.{◌≡◌, ◌≤◌, ◌<◌, ◌+◌, length, vec_len, IfOk};
-ghost use Rattle.limits.specs.Limits.{most_source_bytes, most_tokens};
+ghost use Rattle.base.specs.Limits.{most_source_bytes, most_tokens};
 ghost use Rattle.c_lex.specs.Results.{Gives};
 ghost use Rattle.c_lex.specs.Lexemes.{lexeme_at, lexeme_len};
 ghost use Rattle.c_lex.specs.Tokens.{counted, lexed};
@@ -9,7 +9,7 @@ ghost use Rattle.c_lex.specs.Tokens.{counted, lexed};
 use crate::lexeme::{Lexeme, lexeme_at};
 use crate::trivia::include_len;
 use crate::{LexFault, Token};
-use limits::{MOST_SOURCE_BYTES, MOST_TOKENS};
+use base::{MOST_SOURCE_BYTES, MOST_TOKENS};
 use std::alloc::Global;
 
 /// The lexeme, or the fault of one token too many.

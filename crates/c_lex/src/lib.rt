@@ -4,7 +4,6 @@
 //! Always: offsets of tokens rise and lie within the source.
 #![tactic(auto)]
 
-mod bytes;
 mod classes;
 mod digits;
 mod fault;
@@ -12,7 +11,6 @@ mod keyword;
 pub mod laws;
 mod lexeme;
 mod lexer;
-mod name;
 mod number;
 mod punct;
 mod quoted;
@@ -20,10 +18,9 @@ mod runs;
 mod token;
 mod trivia;
 
-pub use bytes::Bytes;
+pub use base::{Bytes, Name};
 pub use fault::LexFault;
 pub use keyword::Keyword;
 pub use lexer::lex;
-pub use name::Name;
 pub use punct::Punct;
 pub use token::{Token, TokenKind};

@@ -2,14 +2,15 @@
 
 ghost use Rattle.std.specs.Prelude.{◌≡◌, ◌≤◌, ◌<◌, ◌+◌, false, length, IfSome, IfOk};
 ghost use Rattle.std.specs.Option.{option_and_then, option_map};
-ghost use Rattle.limits.specs.Limits.{most_source_bytes};
+ghost use Rattle.base.specs.Limits.{most_source_bytes};
 ghost use Rattle.c_lex.specs.Results.{Gives};
 ghost use Rattle.c_lex.specs.Quoted as spec;
 
 use crate::digits::{digits_value, is_digit_in};
 use crate::lexeme::Lexeme;
 use crate::runs::digits_len;
-use crate::{Bytes, LexFault, TokenKind};
+use crate::{LexFault, TokenKind};
+use base::Bytes;
 use std::alloc::{AllocError, Global};
 
 /// Where the closing quote stands.

@@ -1,6 +1,7 @@
 //! Tokens, their kinds, and the offsets at which they stand.
 
-use crate::{Bytes, Keyword, Name, Punct};
+use crate::{Keyword, Punct};
+use base::{Bytes, Name};
 
 /// A token and where it stands in the source: its bytes are those from `at` up to `end`.
 #[derive(Clone, Debug, Drop, PartialEq, Eq)]

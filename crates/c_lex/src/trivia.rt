@@ -2,7 +2,7 @@
 
 ghost use Rattle.std.specs.Prelude.{◌≡◌, ◌≤◌, ◌+◌, length, IfSome};
 ghost use Rattle.std.specs.Option.{option_copied};
-ghost use Rattle.limits.specs.Limits.{most_source_bytes};
+ghost use Rattle.base.specs.Limits.{most_source_bytes};
 ghost use Rattle.c_lex.specs.Trivia as spec;
 
 use crate::LexFault;

@@ -8,3 +8,9 @@ mod ExtendStatements
 mod Taken
 mod TakenExpressions
 mod TakenStatements
+mod Tests
+mod Numbers
+mod Values
+mod Pointers
+mod Accesses
+mod operation_examples

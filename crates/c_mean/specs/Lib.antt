@@ -3,3 +3,4 @@ pub mod Expressions
 pub mod Statements
 pub mod Run
 pub mod RunLaws
+pub mod DefinedLaws

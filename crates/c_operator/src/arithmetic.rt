@@ -1,14 +1,14 @@
 //! Arithmetic and shifts of two integers, with their promotions.
 
 ghost use Rattle.std.specs.Prelude.{◌≡◌, IfOk};
-ghost use Rattle.c_operator_def.specs.Conversions.{promoted};
-ghost use Rattle.c_operator_def.specs.Arithmetic.{chosen, two, arithmetic, integers, shift, shifted};
+ghost use Rattle.c_check_def.specs.Conversions.{promoted};
+ghost use Rattle.c_check_def.specs.Arithmetic.{chosen, two, arithmetic, integers, shift, shifted};
 
 use crate::conversion::converted;
 use crate::types::{are_unsigned, if_unsigned, is_unsigned};
+use base::NoMemory;
 use c_type::{CType, Scalar, TypeForm};
 use c_typed::{BinaryOp, ExprForm, TExpr};
-use no_memory::NoMemory;
 use std::alloc::Global;
 use std::sync::Arc;
 use val_core::Op2;

@@ -3,18 +3,18 @@
 ghost use Rattle.std.specs.Prelude.{◌≡◌, IfOk, option_and_then};
 ghost use Rattle.c_typed.specs.Typed.{expr, assign};
 ghost use Rattle.c_typed.specs.WellTyped.{place_type};
-ghost use Rattle.c_operator_def.specs.Operands.{value_of};
-ghost use Rattle.c_operator_def.specs.Assignments.{target_place, plain_assigned, place_assigned, assigned_typed, stepped, step_bytes, is_up, place_stepped, step_by, step_typed};
+ghost use Rattle.c_check_def.specs.OperandValues.{value_of};
+ghost use Rattle.c_check_def.specs.Assignments.{target_place, plain_assigned, place_assigned, assigned_typed, stepped, step_bytes, is_up, place_stepped, step_by, step_typed};
 
 use crate::compounds::{decreased, increased, integers, shifted};
 use crate::conversion::{converted, may_convert};
 use crate::operands::{boxed_value, is_assignable};
 use crate::types::{laid_out_size, shared};
+use base::NoMemory;
 use c_ast::{AssignOp, IncDec};
-use c_operator_def::Operand;
+use c_check_def::Operand;
 use c_type::{CType, TypeForm, Types};
 use c_typed::{ExprForm, IncDec as TIncDec, TExpr, TPlace};
-use no_memory::NoMemory;
 use std::alloc::Global;
 use val_core::Op2;
 

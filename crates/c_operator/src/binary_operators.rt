@@ -1,19 +1,19 @@
 //! Binary operators, each by one call.
 
 ghost use Rattle.std.specs.Prelude.{◌≡◌, IfOk, option_and_then};
-ghost use Rattle.c_operator_def.specs.Operands.{value_of};
-ghost use Rattle.c_operator_def.specs.Operators.{binary_typed, values_joined};
+ghost use Rattle.c_check_def.specs.OperandValues.{value_of};
+ghost use Rattle.c_check_def.specs.Operators.{binary_typed, values_joined};
 
 use crate::arithmetic::{integers, shifted};
 use crate::logical::{both, either};
 use crate::operands::boxed_value;
 use crate::pointer::{difference, sum};
 use crate::relation::{equated, ordered};
+use base::NoMemory;
 use c_ast::BinaryOp;
-use c_operator_def::Operand;
+use c_check_def::Operand;
 use c_type::Types;
 use c_typed::{Relation, TExpr};
-use no_memory::NoMemory;
 use std::alloc::Global;
 use val_core::Op2;
 

@@ -5,15 +5,15 @@ ghost use Rattle.c_type.specs.Trees.{void_type};
 ghost use Rattle.c_typed.specs.declared.operator.UnaryOp.TheVariants as unary_op;
 ghost use Rattle.c_typed.specs.Typed.{expr, unary};
 ghost use Rattle.c_typed.specs.WellTyped.{type_of};
-ghost use Rattle.c_operator_def.specs.Operators.{cast_by, cast_typed, size_typed};
+ghost use Rattle.c_check_def.specs.Operators.{cast_by, cast_typed, size_typed};
 
 use crate::conversion::converted;
 use crate::operands::boxed_value;
 use crate::types::{if_unsigned, laid_out_size};
-use c_operator_def::Operand;
+use base::NoMemory;
+use c_check_def::Operand;
 use c_type::{CType, TypeForm, Types};
 use c_typed::{ExprForm, TExpr, UnaryOp};
-use no_memory::NoMemory;
 use std::alloc::Global;
 use std::sync::Arc;
 

@@ -2,11 +2,11 @@
 
 ghost use Rattle.std.specs.Prelude.{◌≡◌, IfOk};
 ghost use Rattle.c_typed.specs.Typed.{exprs_of};
-ghost use Rattle.c_operator_def.specs.Operators.{comma_typed};
+ghost use Rattle.c_check_def.specs.Operators.{comma_typed};
 
 use crate::types::shared;
+use base::NoMemory;
 use c_typed::{ExprForm, TExpr};
-use no_memory::NoMemory;
 use std::alloc::Global;
 
 /// Values with commas between them (ISO/IEC 9899:2011, 6.5.17): those that are dropped, in order,

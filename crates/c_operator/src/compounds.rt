@@ -2,16 +2,16 @@
 
 ghost use Rattle.std.specs.Prelude.{◌≡◌, IfOk, IsErr};
 ghost use Rattle.c_typed.specs.WellTyped.{type_of, place_type, if_unsigned};
-ghost use Rattle.c_operator_def.specs.Arithmetic.{chosen};
-ghost use Rattle.c_operator_def.specs.Conversions.{converted};
-ghost use Rattle.c_operator_def.specs.Assignments.{compounded, in_type, integers, shifted, moved, increased_by, decreased_by};
+ghost use Rattle.c_check_def.specs.Arithmetic.{chosen};
+ghost use Rattle.c_check_def.specs.Conversions.{converted};
+ghost use Rattle.c_check_def.specs.Assignments.{compounded, in_type, integers, shifted, moved, increased_by, decreased_by};
 
 use crate::arithmetic::{chosen, promoted};
 use crate::conversion::converted;
 use crate::types::{are_unsigned, if_unsigned, is_unsigned, laid_out_size, shared};
+use base::NoMemory;
 use c_type::{TypeForm, Types};
 use c_typed::{CompoundOp, ExprForm, TExpr, TPlace};
-use no_memory::NoMemory;
 use std::alloc::Global;
 use val_core::Op2;
 

@@ -3,18 +3,18 @@
 ghost use Rattle.std.specs.Prelude.{◌≡◌, IfOk, option_and_then};
 ghost use Rattle.c_typed.specs.Typed.{expr, conditional};
 ghost use Rattle.c_typed.specs.WellTyped.{type_of, if_unsigned};
-ghost use Rattle.c_operator_def.specs.Conversions.{converted};
-ghost use Rattle.c_operator_def.specs.Operands.{value_of};
-ghost use Rattle.c_operator_def.specs.Operators.{on_values, conditional_typed, choice, choice_of};
+ghost use Rattle.c_check_def.specs.Conversions.{converted};
+ghost use Rattle.c_check_def.specs.OperandValues.{value_of};
+ghost use Rattle.c_check_def.specs.Operators.{on_values, conditional_typed, choice, choice_of};
 
 use crate::constant::is_null_constant;
 use crate::conversion::{converted, same_type};
 use crate::operands::{boxed_value, condition};
 use crate::types::{are_unsigned, if_unsigned, shared};
-use c_operator_def::Operand;
+use base::NoMemory;
+use c_check_def::Operand;
 use c_type::{CType, TypeForm};
 use c_typed::{ExprForm, TExpr};
-use no_memory::NoMemory;
 use std::alloc::Global;
 use std::sync::Arc;
 

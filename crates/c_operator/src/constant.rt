@@ -1,7 +1,7 @@
 //! The value of an integer constant expression, and null pointer constants.
 
 ghost use Rattle.std.specs.Prelude.{◌≡◌};
-ghost use Rattle.c_operator_def.specs.Constants.{constant_value, is_null_constant};
+ghost use Rattle.c_check_def.specs.Constants.{constant_value, is_null_constant};
 
 use crate::conversion::is_integer;
 use crate::form::has_constant_form;

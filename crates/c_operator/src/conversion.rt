@@ -1,16 +1,16 @@
 //! Conversions of expressions, and the values that may be converted by an assignment.
 
 ghost use Rattle.std.specs.Prelude.{◌≡◌, IfOk};
-ghost use Rattle.c_operator_def.specs.Types.{is_integer, same_type};
-ghost use Rattle.c_operator_def.specs.Conversions.{converted, may_convert, converts};
+ghost use Rattle.c_check_def.specs.Types.{is_integer, same_type};
+ghost use Rattle.c_check_def.specs.Conversions.{converted, may_convert, converts};
 ghost use Rattle.c_typed.specs.declared.operator.UnaryOp.TheVariants as unary_op;
 ghost use Rattle.c_typed.specs.Typed.{expr, unary};
 ghost use Rattle.c_typed.specs.WellTyped.{type_of};
 
 use crate::constant::is_null_constant;
+use base::NoMemory;
 use c_type::{CType, TypeForm};
 use c_typed::{ExprForm, TExpr, UnaryOp};
-use no_memory::NoMemory;
 use std::alloc::Global;
 use std::sync::Arc;
 

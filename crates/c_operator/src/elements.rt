@@ -1,15 +1,15 @@
 //! Subscripts of arrays and pointers.
 
 ghost use Rattle.std.specs.Prelude.{◌≡◌, IfOk};
-ghost use Rattle.c_operator_def.specs.Operators.{has_const_elements, element, index_typed};
+ghost use Rattle.c_check_def.specs.Operators.{has_const_elements, element, index_typed};
 
 use crate::binary_operators::binary;
 use crate::types::owned;
+use base::NoMemory;
 use c_ast::BinaryOp;
-use c_operator_def::Operand;
+use c_check_def::Operand;
 use c_type::{TypeForm, Types};
 use c_typed::{PlaceForm, TExpr, TPlace};
-use no_memory::NoMemory;
 use std::alloc::Global;
 
 /// What `[]` makes of a pointer and an integer, in either order (ISO/IEC 9899:2011, 6.5.2.1): an

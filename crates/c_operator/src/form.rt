@@ -1,8 +1,8 @@
 //! The form of integer constant expressions.
 
 ghost use Rattle.std.specs.Prelude.{◌≡◌};
-ghost use Rattle.c_operator_def.specs.Types.{is_integer};
-ghost use Rattle.c_operator_def.specs.Constants.{has_constant_form, is_constant_unary, is_constant_binary};
+ghost use Rattle.c_check_def.specs.Types.{is_integer};
+ghost use Rattle.c_check_def.specs.Constants.{has_constant_form, is_constant_unary, is_constant_binary};
 
 use crate::conversion::is_integer;
 use c_type::CType;

@@ -25,7 +25,6 @@ mod word;
 
 pub use assignments::{assigned, step};
 pub use binary_operators::binary;
-pub use c_operator_def::Operand;
 pub use casts::{cast, size_of_type};
 pub use commas::comma;
 pub use conditionals::conditional;

@@ -1,11 +1,11 @@
 //! The operators `&&` and `||`.
 
 ghost use Rattle.std.specs.Prelude.{◌≡◌, IfOk};
-ghost use Rattle.c_operator_def.specs.Operators.{both, either};
+ghost use Rattle.c_check_def.specs.Operators.{both, either};
 
 use crate::types::{if_unsigned, is_scalar};
+use base::NoMemory;
 use c_typed::{ExprForm, TExpr};
-use no_memory::NoMemory;
 use std::alloc::Global;
 
 // `&&` of integers or pointers (ISO/IEC 9899:2011, 6.5.13p2).

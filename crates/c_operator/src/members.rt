@@ -1,17 +1,17 @@
 //! Members of structs, after `.` and `->`.
 
 ghost use Rattle.std.specs.Prelude.{◌≡◌, IfOk};
-ghost use Rattle.c_operator_def.specs.Operators.{selected, selected_tag, struct_tag, member_at, member_of, member_typed};
+ghost use Rattle.c_check_def.specs.Operators.{selected, selected_tag, struct_tag, member_at, member_of, member_typed};
 ghost use Rattle.c_ast.specs.declared.operator.Selection.TheVariants as selection;
 
 use crate::operands::{boxed_value, operand_type};
 use crate::types::owned;
 use crate::unary_operators::pointed;
+use base::NoMemory;
 use c_ast::Selection;
-use c_operator_def::Operand;
+use c_check_def::Operand;
 use c_type::{CType, TypeForm, Types, offset_of};
 use c_typed::{PlaceForm, TPlace};
-use no_memory::NoMemory;
 use std::alloc::Global;
 
 /// The tag of the structure whose member `.` or `->` names; none where the operand is no structure,

@@ -3,14 +3,14 @@
 ghost use Rattle.std.specs.Prelude.{◌≡◌, IfOk, MatchOption};
 ghost use Rattle.c_typed.specs.Typed.{expr, read};
 ghost use Rattle.c_typed.specs.WellTyped.{place_type};
-ghost use Rattle.c_operator_def.specs.Operands.{operand_type, place_value, value_of, if_scalar, is_assignable};
-ghost use Rattle.c_operator_def.specs.Operators.{condition_of};
+ghost use Rattle.c_check_def.specs.OperandValues.{operand_type, place_value, value_of, if_scalar, is_assignable};
+ghost use Rattle.c_check_def.specs.Operators.{condition_of};
 
 use crate::types::{is_scalar, pointer_type, shared};
-use c_operator_def::Operand;
+use base::NoMemory;
+use c_check_def::Operand;
 use c_type::{CType, TypeForm};
 use c_typed::{ExprForm, TExpr, TPlace};
-use no_memory::NoMemory;
 use std::alloc::Global;
 
 /// The type of an operand as it stands, an array or a structure too, as `sizeof` asks it.

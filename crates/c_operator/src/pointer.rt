@@ -2,14 +2,14 @@
 
 ghost use Rattle.std.specs.Prelude.{◌≡◌, IfOk};
 ghost use Rattle.c_typed.specs.WellTyped.{int, type_of};
-ghost use Rattle.c_operator_def.specs.Arithmetic.{two, two_where, sum, difference};
+ghost use Rattle.c_check_def.specs.Arithmetic.{two, two_where, sum, difference};
 
 use crate::arithmetic::{arithmetic, two};
 use crate::conversion::same_type;
 use crate::types::{are_unsigned, if_unsigned, laid_out_size, shared};
+use base::NoMemory;
 use c_type::{TypeForm, Types};
 use c_typed::{BinaryOp, TExpr};
-use no_memory::NoMemory;
 use std::alloc::Global;
 use val_core::Op2;
 

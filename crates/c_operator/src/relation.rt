@@ -3,17 +3,17 @@
 ghost use Rattle.std.specs.Prelude.{◌≡◌, if◌then◌else◌, IfOk};
 ghost use Rattle.c_typed.specs.WellTyped.{if_unsigned, int, type_of};
 ghost use Rattle.c_typed.specs.declared.operator.BinaryOp.TheVariants as binary_op;
-ghost use Rattle.c_operator_def.specs.Constants.{is_null_constant};
-ghost use Rattle.c_operator_def.specs.Conversions.{converted};
-ghost use Rattle.c_operator_def.specs.Arithmetic.{two, compared, ordered, equated};
+ghost use Rattle.c_check_def.specs.Constants.{is_null_constant};
+ghost use Rattle.c_check_def.specs.Conversions.{converted};
+ghost use Rattle.c_check_def.specs.Arithmetic.{two, compared, ordered, equated};
 
 use crate::constant::is_null_constant;
 use crate::conversion::{converted, same_type};
 use crate::pointer::two_in_int;
 use crate::types::{are_unsigned, if_unsigned};
+use base::NoMemory;
 use c_type::TypeForm;
 use c_typed::{BinaryOp, Relation, TExpr};
-use no_memory::NoMemory;
 use std::alloc::Global;
 
 // Two integers compared in `unsigned int` or in `int`.

@@ -3,10 +3,10 @@
 ghost use Rattle.std.specs.Prelude.{◌≡◌, IfOk};
 ghost use Rattle.c_type.specs.Trees.{pointer_to};
 ghost use Rattle.c_typed.specs.WellTyped.{if_unsigned};
-ghost use Rattle.c_operator_def.specs.Types.{is_scalar, is_unsigned, are_unsigned, laid_out_size};
+ghost use Rattle.c_check_def.specs.Types.{is_scalar, is_unsigned, are_unsigned, laid_out_size};
 
+use base::NoMemory;
 use c_type::{CType, Scalar, TypeForm, Types, bounded_size, is_complete};
-use no_memory::NoMemory;
 use std::alloc::Global;
 use std::sync::Arc;
 

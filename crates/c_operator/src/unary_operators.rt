@@ -4,16 +4,16 @@ ghost use Rattle.std.specs.Prelude.{◌≡◌, IfOk, option_map};
 ghost use Rattle.c_type.specs.Trees.{pointer_to};
 ghost use Rattle.c_typed.specs.Typed.{expr, address};
 ghost use Rattle.c_typed.specs.WellTyped.{type_of, place_type};
-ghost use Rattle.c_operator_def.specs.Operators.{unary_typed, value_joined, plus_by, minus_by, complement_by, negation, pointed, address_of};
+ghost use Rattle.c_check_def.specs.Operators.{unary_typed, value_joined, plus_by, minus_by, complement_by, negation, pointed, address_of};
 
 use crate::arithmetic::promoted;
 use crate::operands::boxed_value;
 use crate::types::{if_unsigned, is_scalar, is_unsigned, owned, pointer_type};
+use base::NoMemory;
 use c_ast::UnaryOp;
-use c_operator_def::Operand;
+use c_check_def::Operand;
 use c_type::TypeForm;
 use c_typed::{ExprForm, PlaceForm, TExpr, TPlace, UnaryOp as TUnaryOp};
-use no_memory::NoMemory;
 use std::alloc::Global;
 
 /// What `&`, `*`, `+`, `-`, `~` or `!` makes of an operand (ISO/IEC 9899:2011, 6.5.3): an lvalue or

@@ -1,7 +1,7 @@
 //! The words that constant expressions are worth.
 
 ghost use Rattle.std.specs.Prelude.{◌≡◌};
-ghost use Rattle.c_operator_def.specs.Constants.{expr_word, unary_word, binary_word, converted_word, arithmetic_word, has_result, is_below, are_related, truth_word};
+ghost use Rattle.c_check_def.specs.Constants.{expr_word, unary_word, binary_word, converted_word, arithmetic_word, has_result, is_below, are_related, truth_word};
 ghost use Rattle.c_typed.specs.WellTyped.{is_shift, is_division};
 
 use c_type::{CType, Scalar, TypeForm};

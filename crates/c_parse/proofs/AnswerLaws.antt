@@ -9,8 +9,8 @@ use Rattle.c_ast.specs.Nesting.{depth, deepest, after_token}
 use Rattle.c_ast.specs.Shape.{Shaped}
 use Rattle.c_ast.specs.Spelling.{kinds, tokens_of}
 use Rattle.c_ast.specs.Tree.{Tree}
-use Rattle.c_parse_laws.proofs.lemmas.GrammarLaws.{one_token}
-use Rattle.c_parse_laws.proofs.lemmas.Spans.{kinds_append}
+use Rattle.c_ast.proofs.lemmas.GrammarLaws.{one_token}
+use Rattle.c_ast.proofs.lemmas.Spans.{kinds_append}
 use Rattle.c_parse.specs.Refusal.{WrongAt, Answers, Agree, OneAnswer, ShapedIsAccepted}
 use Rattle.c_parse_tokens.specs.TooDeep.{FirstTooDeep}
 use Rattle.c_parse_tokens.specs.Reading.{offset_of}

@@ -18,16 +18,16 @@ use Rattle.c_ast.specs.Terminals.{Mark, is}
 use Rattle.c_ast.specs.Tree.{Tree}
 use Rattle.c_ast.proofs.lemmas.InitViews.{init_views}
 use Rattle.c_ast.proofs.lemmas.Lists.{grows}
-use Rattle.c_parse_laws.specs.Reader.{ReadResult, Read, and_then, token, read, first, begun, children, one, turns, later, production_of}
-use Rattle.c_parse_laws.specs.PredictSets.{head, at, start, next, init_next, begins_init, begins_expr}
+use Rattle.c_ast.specs.Reader.{ReadResult, Read, and_then, token, read, first, begun, children, one, turns, later, production_of}
+use Rattle.c_ast.specs.PredictSets.{head, at, start, next, init_next, begins_init, begins_expr}
 use Rattle.c_ast.specs.declared.token.Span.{Span}
 use Rattle.c_parse.specs.declared.declaration.Inits.{Inits}
 use Rattle.c_parse.specs.Made.{inits_tree, more_production}
-use Rattle.c_parse_expression.proofs.lemmas.Expressions.{turn-none, turn-some, read-steps}
+use Rattle.c_parse_tokens.proofs.lemmas.Expressions.{turn-none, turn-some, read-steps}
 use Rattle.c_parse.proofs.FlatReads.{begun-row}
 use Rattle.c_parse.proofs.PlainReads.{read-locals}
 use Rattle.c_parse_tokens.proofs.lemmas.Reads.{loops, repeats}
-use Rattle.c_parse_expression.proofs.lemmas.SameNonterminal.{init-other, init-list}
+use Rattle.c_parse_tokens.proofs.lemmas.SameNonterminal.{init-other, init-list}
 
 abbrev comma_next : Option TokenKind → Option Production
 comma_next h = if at (is (Mark m.Comma)) h then Some production.InitComma else None

@@ -14,13 +14,13 @@ use Rattle.c_ast.specs.Specifiers.{spec_tree}
 use Rattle.c_ast.specs.Terminals.{Mark, is, mark_number}
 use Rattle.c_ast.specs.Tree.{Tree}
 use Rattle.c_ast.proofs.lemmas.Lists.{grows}
-use Rattle.c_parse_laws.specs.Reader.{read}
-use Rattle.c_parse_laws.specs.PredictSets.{head, typed, at, start, next, after_tag}
+use Rattle.c_ast.specs.Reader.{read}
+use Rattle.c_ast.specs.PredictSets.{head, typed, at, start, next, after_tag}
 use Rattle.c_parse_tokens.specs.Ahead.{is_struct}
 use Rattle.c_parse.proofs.FlatReads.{rows}
 use Rattle.c_parse.proofs.PlainReads.{plain_reads}
 use Rattle.c_parse_tokens.proofs.lemmas.Reads.{repeats}
-use Rattle.c_parse_expression.proofs.lemmas.SameNonterminal.{read_same}
+use Rattle.c_parse_tokens.proofs.lemmas.SameNonterminal.{read_same}
 
 pub plain-with : (s : Spec) (rest : Tree) → is_struct s ≡ false → plain_with s rest ≡ node production.Plain (spec_tree s ∷ rest ∷ [])
 plain-with (spec.Void a) rest e = refl

@@ -5,9 +5,9 @@ use Rattle.c_ast.specs.Nonterminals.{Nonterminal}
 use Rattle.c_ast.specs.Grammar.{Symbol, symbols_of}
 use Rattle.c_ast.specs.Productions.{Production}
 use Rattle.c_ast.specs.Tree.{Tree, Node, Nil, Cons}
-use Rattle.c_parse_laws.specs.Reader.{ReadResult, Read, SyntaxError, and_then, one, children, begun, later}
+use Rattle.c_ast.specs.Reader.{ReadResult, Read, SyntaxError, and_then, one, children, begun, later}
 use Rattle.c_parse_tokens.proofs.lemmas.Reads.{then-then}
-use Rattle.c_parse_expression.proofs.lemmas.SameNonterminal.{then_same}
+use Rattle.c_parse_tokens.proofs.lemmas.SameNonterminal.{then_same}
 
 -- a sequence of symbols, and what is made of their trees
 abbrev pub row : (Nonterminal → List Token → ReadResult) → List Symbol → List Token → (Tree → List Token → ReadResult) → ReadResult

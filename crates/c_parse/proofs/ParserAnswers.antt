@@ -10,10 +10,10 @@ use Rattle.c_ast.specs.Nesting.{depth}
 use Rattle.c_ast.specs.Shape.{FollowsGrammar}
 use Rattle.c_ast.specs.Spelling.{kinds, tokens_of}
 use Rattle.c_ast.specs.Tree.{Tree}
-use Rattle.c_parse_laws.specs.Beginnings.{WrongFrom}
-use Rattle.c_parse_laws.specs.Laws.{Says}
-use Rattle.c_parse_laws.specs.Reader.{ReadResult, Read, SyntaxError, OutOfFuel, read}
-use Rattle.c_parse_laws.proofs.lemmas.GrammarLaws.{reader_is_exact}
+use Rattle.c_ast.specs.Beginnings.{WrongFrom}
+use Rattle.c_ast.specs.Laws.{Says}
+use Rattle.c_ast.specs.Reader.{ReadResult, Read, SyntaxError, OutOfFuel, read}
+use Rattle.c_ast.proofs.lemmas.GrammarLaws.{reader_is_exact}
 use Rattle.c_parse_tokens.specs.LeftOut.{first_left_out}
 use Rattle.c_parse.specs.Refusal.{Answers}
 use Rattle.c_parse_tokens.specs.Reading.{offset_of}

@@ -11,8 +11,8 @@ use Rattle.c_ast.specs.Productions as production
 use Rattle.c_ast.specs.Nodes.{node}
 use Rattle.c_ast.specs.Terminals.{Mark, is}
 use Rattle.c_ast.specs.Tree.{Tree, Node}
-use Rattle.c_parse_laws.specs.Reader.{ReadResult, Read, SyntaxError, OutOfFuel, and_then, read, step, first, begun, children, turns, goes_on, production_of}
-use Rattle.c_parse_laws.specs.PredictSets.{head, typed, at, start, next, begins_optional, begins_type, external, group_label}
+use Rattle.c_ast.specs.Reader.{ReadResult, Read, SyntaxError, OutOfFuel, and_then, read, step, first, begun, children, turns, goes_on, production_of}
+use Rattle.c_ast.specs.PredictSets.{head, typed, at, start, next, begins_optional, begins_type, external, group_label}
 
 then_done : (rd : Nonterminal → List Token → ReadResult) (o : Option Production) (ts : List Token) (g : Tree → List Token → ReadResult) →
     ((l : Production) (f : Tree) (k : List Token) → g (Node l f) k ≡ Read (Node l f) k) → and_then (begun rd o ts) g ≡ begun rd o ts

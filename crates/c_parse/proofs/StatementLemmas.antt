@@ -12,17 +12,17 @@ use Rattle.c_ast.specs.Terminals.{ThisKeyword, is}
 use Rattle.c_ast.specs.Tree.{Tree, Node, Cons}
 use Rattle.c_ast.proofs.lemmas.Lists.{grows}
 use Rattle.c_ast.proofs.lemmas.StmtViews.{stmt_views}
-use Rattle.c_parse_laws.specs.Reader.{ReadResult, Read, SyntaxError, OutOfFuel, and_then, read, first, begun, children, one, turns, goes_on, later, token, production_of}
-use Rattle.c_parse_laws.specs.PredictSets.{head, typed, at, start, next, stmt, stmt_next, item, begins_type}
+use Rattle.c_ast.specs.Reader.{ReadResult, Read, SyntaxError, OutOfFuel, and_then, read, first, begun, children, one, turns, goes_on, later, token, production_of}
+use Rattle.c_ast.specs.PredictSets.{head, typed, at, start, next, stmt, stmt_next, item, begins_type}
 use Rattle.c_parse_tokens.specs.declared.ahead.SimpleStart.{SimpleStart}
 use Rattle.c_parse_tokens.specs.declared.ahead.SimpleStart.TheVariants as simple
 use Rattle.c_parse_tokens.specs.Ahead.{simple_production}
-use Rattle.c_parse_expression.proofs.lemmas.Expressions.{read-steps}
+use Rattle.c_parse_tokens.proofs.lemmas.Expressions.{read-steps}
 use Rattle.c_parse.proofs.FlatReads.{rows}
 use Rattle.c_parse.proofs.PlainReads.{plain_reads, read-block, read-locals}
 use Rattle.c_parse_tokens.proofs.lemmas.Reads.{repeats}
-use Rattle.c_parse_expression.proofs.lemmas.SameNonterminal.{read_plain, read_same}
-use Rattle.c_parse_expression.proofs.lemmas.TypeViews.{type_views}
+use Rattle.c_parse_tokens.proofs.lemmas.SameNonterminal.{read_plain, read_same}
+use Rattle.c_parse_tokens.proofs.lemmas.TypeViews.{type_views}
 
 -- ---- statements that no `else` may follow
 

@@ -1,6 +1,6 @@
 -- What the parser answers on the tokens of a text, and that the answer is determined.
 use Rattle.std.specs.Prelude.{◌≡◌, ℕ, ◌≤◌, ⊤, List, Some, None, Result, Ok, Err}
-use Rattle.limits.specs.Limits.{most_nesting}
+use Rattle.base.specs.Limits.{most_nesting}
 use Rattle.c_lex.specs.declared.token.Token.{Token}
 use Rattle.c_ast.specs.declared.external.Unit as ast
 use Rattle.c_ast.specs.Externals.{unit_tree}
@@ -8,7 +8,7 @@ use Rattle.c_ast.specs.Nesting.{depth}
 use Rattle.c_ast.specs.Shape.{Shaped}
 use Rattle.c_ast.specs.Spelling.{kinds, tokens_of}
 use Rattle.c_ast.specs.Tree.{Tree}
-use Rattle.c_parse_laws.specs.Beginnings.{WrongFrom}
+use Rattle.c_ast.specs.Beginnings.{WrongFrom}
 use Rattle.c_parse_tokens.specs.LeftOut.{first_left_out}
 use Rattle.c_parse_tokens.specs.Reading.{offset_of}
 use Rattle.c_parse_tokens.specs.TooDeep.{FirstTooDeep}

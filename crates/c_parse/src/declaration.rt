@@ -1,5 +1,5 @@
 //! Declarations of variables and their initialisers (ISO 9899:2011, 6.7).
-#![tactic(auto, using(crate::proofs::DeclarationLemmas::declarations), unfolding(c_parse_laws::specs::Reader::first, c_parse_laws::specs::Reader::begun, c_parse_laws::specs::Reader::later, c_parse_laws::specs::Reader::children, c_parse_laws::specs::Reader::one, c_parse_laws::specs::Reader::step, c_parse_laws::specs::Reader::turns, c_parse_laws::specs::Reader::goes_on, c_parse_laws::specs::PredictSets::start, c_parse_laws::specs::PredictSets::next, c_parse_laws::specs::PredictSets::begins_optional, c_parse_laws::specs::PredictSets::begins_repeated, c_ast::specs::Grammar::rule, c_ast::specs::Grammar::symbols_of, c_ast::specs::Grammar::optional, c_ast::specs::Grammar::repeated, c_parse_tokens::specs::Operands::nonterminal_of, c_ast::specs::Declarations::declarator, c_ast::specs::Declarations::locals_tree))]
+#![tactic(auto, using(crate::proofs::DeclarationLemmas::declarations), unfolding(c_ast::specs::Reader::first, c_ast::specs::Reader::begun, c_ast::specs::Reader::later, c_ast::specs::Reader::children, c_ast::specs::Reader::one, c_ast::specs::Reader::step, c_ast::specs::Reader::turns, c_ast::specs::Reader::goes_on, c_ast::specs::PredictSets::start, c_ast::specs::PredictSets::next, c_ast::specs::PredictSets::begins_optional, c_ast::specs::PredictSets::begins_repeated, c_ast::specs::Grammar::rule, c_ast::specs::Grammar::symbols_of, c_ast::specs::Grammar::optional, c_ast::specs::Grammar::repeated, c_parse_tokens::specs::Operands::nonterminal_of, c_ast::specs::Declarations::declarator, c_ast::specs::Declarations::locals_tree))]
 
 ghost use Rattle.std.specs.Prelude.{◌≡◌, ◌||◌, [], ◌∷◌, Some, None, if◌then◌else◌};
 ghost use Rattle.c_ast.specs.Nonterminals as nonterminal;
@@ -10,16 +10,17 @@ ghost use Rattle.c_ast.specs.Productions as production;
 ghost use Rattle.c_ast.specs.Nodes.{opt, node};
 ghost use Rattle.c_ast.specs.Specifiers.{constant, spec_tree};
 ghost use Rattle.c_ast.specs.Terminals.{Mark};
-ghost use Rattle.c_parse_laws.specs.Reader.{Read, and_then, read, begun, later, production_of, token};
-ghost use Rattle.c_parse_laws.specs.PredictSets.{head, at, begins_init, next};
+ghost use Rattle.c_ast.specs.Reader.{Read, and_then, read, begun, later, production_of, token};
+ghost use Rattle.c_ast.specs.PredictSets.{head, at, begins_init, next};
 ghost use Rattle.c_lex.specs.declared.punct.Punct.TheVariants as m;
 ghost use Rattle.c_parse.specs.Made.{inits_tree, more_production};
 ghost use Rattle.c_parse_tokens.specs.Reading.{Gives};
 
 use c_ast::{Declarator, Expr, Init, Initializer, Locals, Next, OpenDimension, Span, Spec};
 use c_lex::Punct;
-use c_parse_expression::{operand, qualifier, specifier, stars};
-use c_parse_tokens::{Fault, Precedence, Tokens, read_list, try_with};
+use c_parse_tokens::{
+    Fault, Precedence, Tokens, operand, qualifier, read_list, specifier, stars, try_with,
+};
 use sqlite_items::{Boxed, Items};
 
 /// Initialisers between braces.

@@ -1,5 +1,5 @@
 //! Declarations at file scope (ISO 9899:2011, 6.9).
-#![tactic(auto, using(crate::proofs::ExternalLemmas::externals), unfolding(c_parse_laws::specs::Reader::children, c_parse_laws::specs::Reader::one, c_parse_laws::specs::PredictSets::begins_optional, c_parse_laws::specs::PredictSets::begins_repeated, c_ast::specs::Grammar::rule, c_ast::specs::Grammar::symbols_of, c_ast::specs::Grammar::optional, c_ast::specs::Grammar::repeated, c_ast::specs::Externals::member, c_ast::specs::Externals::members, c_ast::specs::Externals::param, c_ast::specs::Externals::body_tree, c_ast::specs::Externals::external_tree, c_ast::specs::Externals::specified))]
+#![tactic(auto, using(crate::proofs::ExternalLemmas::externals), unfolding(c_ast::specs::Reader::children, c_ast::specs::Reader::one, c_ast::specs::PredictSets::begins_optional, c_ast::specs::PredictSets::begins_repeated, c_ast::specs::Grammar::rule, c_ast::specs::Grammar::symbols_of, c_ast::specs::Grammar::optional, c_ast::specs::Grammar::repeated, c_ast::specs::Externals::member, c_ast::specs::Externals::members, c_ast::specs::Externals::param, c_ast::specs::Externals::body_tree, c_ast::specs::Externals::external_tree, c_ast::specs::Externals::specified))]
 
 ghost use Rattle.std.specs.Prelude.{◌≡◌, [], ◌∷◌, Some};
 ghost use Rattle.c_ast.specs.Nonterminals as nonterminal;
@@ -9,7 +9,7 @@ ghost use Rattle.c_ast.specs.Externals as view;
 ghost use Rattle.c_ast.specs.Externals.{external_tree, specified, body_tree};
 ghost use Rattle.c_ast.specs.Productions as production;
 ghost use Rattle.c_ast.specs.Nodes.{opt, many, name};
-ghost use Rattle.c_parse_laws.specs.Reader.{read, begun};
+ghost use Rattle.c_ast.specs.Reader.{read, begun};
 ghost use Rattle.c_parse.specs.Externals.{rest_tree, declared_tree, after_tag_tree};
 ghost use Rattle.c_parse_tokens.specs.Reading.{Gives};
 
@@ -20,8 +20,10 @@ use c_ast::{
     OpenDimension, Param, Params, Span, Spec, Specifiers, StructBody, Structure, Unit,
 };
 use c_lex::{Keyword, Punct};
-use c_parse_expression::{dimensions, plain_specifier, qualifier, specifier, stars};
-use c_parse_tokens::{ExternalStart, Fault, Tokens, read_list, try_with};
+use c_parse_tokens::{
+    ExternalStart, Fault, Tokens, dimensions, plain_specifier, qualifier, read_list, specifier,
+    stars, try_with,
+};
 use sqlite_items::Items;
 
 /// What stands after the name of a function or of the first variable.

@@ -1,5 +1,5 @@
 //! Statements (ISO 9899:2011, 6.8).
-#![tactic(auto, using(crate::proofs::StatementLemmas::statements), unfolding(c_parse_laws::specs::Reader::children, c_parse_laws::specs::Reader::one, c_parse_laws::specs::PredictSets::begins_optional, c_parse_laws::specs::PredictSets::begins_repeated, c_ast::specs::Grammar::rule, c_ast::specs::Grammar::symbols_of, c_ast::specs::Grammar::optional, c_ast::specs::Grammar::repeated, c_parse_tokens::specs::Operands::nonterminal_of, c_ast::specs::Statements::start_tree, c_ast::specs::Statements::label_tree, c_ast::specs::Statements::else_children))]
+#![tactic(auto, using(crate::proofs::StatementLemmas::statements), unfolding(c_ast::specs::Reader::children, c_ast::specs::Reader::one, c_ast::specs::PredictSets::begins_optional, c_ast::specs::PredictSets::begins_repeated, c_ast::specs::Grammar::rule, c_ast::specs::Grammar::symbols_of, c_ast::specs::Grammar::optional, c_ast::specs::Grammar::repeated, c_parse_tokens::specs::Operands::nonterminal_of, c_ast::specs::Statements::start_tree, c_ast::specs::Statements::label_tree, c_ast::specs::Statements::else_children))]
 
 ghost use Rattle.std.specs.Prelude.{◌≡◌, ◌<◌, ◌-◌, [], ◌∷◌, Some, IfOk, IfErr};
 ghost use Rattle.c_ast.specs.Nonterminals as nonterminal;
@@ -9,7 +9,7 @@ ghost use Rattle.c_ast.specs.Statements.{clause, else_children, start_tree, labe
 ghost use Rattle.c_ast.specs.Nodes.{node, word};
 ghost use Rattle.c_lex.specs.declared.keyword.Keyword.TheVariants as w;
 ghost use Rattle.c_parse_tokens.specs.declared.fault.Fault.TheVariants as fault;
-ghost use Rattle.c_parse_laws.specs.Reader.{Read, read, begun, turns, and_then};
+ghost use Rattle.c_ast.specs.Reader.{Read, read, begun, turns, and_then};
 ghost use Rattle.c_parse_tokens.specs.Ahead.{simple_production};
 ghost use Rattle.c_parse.specs.Made.{if_tree};
 ghost use Rattle.c_parse_tokens.specs.Reading.{Gives};
@@ -20,9 +20,9 @@ use c_ast::{
     Subject,
 };
 use c_lex::{Keyword, Punct};
-use c_parse_expression::{expression, operand};
 use c_parse_tokens::{
-    Fault, LabelStart, Precedence, SimpleStart, StmtStart, Tokens, read_list, try_with,
+    Fault, LabelStart, Precedence, SimpleStart, StmtStart, Tokens, expression, operand, read_list,
+    try_with,
 };
 use sqlite_items::{Boxed, Items};
 

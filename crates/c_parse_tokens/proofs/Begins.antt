@@ -7,7 +7,7 @@ use Rattle.c_lex.specs.declared.token.TokenKind.{TokenKind}
 use Rattle.c_ast.specs.Productions.{Production}
 use Rattle.c_ast.specs.Productions as production
 use Rattle.c_ast.specs.Terminals.{ThisKeyword, is}
-use Rattle.c_parse_laws.specs.PredictSets.{at, stmt, item, begins_type, begins_external, begins_repeated}
+use Rattle.c_ast.specs.PredictSets.{at, stmt, item, begins_type, begins_external, begins_repeated}
 
 of_production : (l : Option Production) → is_some l ≡ option_map_or (λ x. true) l false
 of_production None = refl

@@ -1,4 +1,5 @@
 pub mod lemmas
+mod LiteralLemmas
 mod Marks
 mod Begins
 mod OperandLemmas

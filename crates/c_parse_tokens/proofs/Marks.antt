@@ -6,7 +6,7 @@ use Rattle.c_lex.specs.declared.keyword.Keyword.TheVariants as w
 use Rattle.c_lex.specs.declared.punct.Punct.{Punct}
 use Rattle.c_lex.specs.declared.punct.Punct.TheVariants as m
 use Rattle.c_ast.specs.Terminals.{mark_number, keyword_number}
-use Rattle.c_parse_laws.proofs.lemmas.Lists.{nth}
+use Rattle.c_ast.proofs.lemmas.CheckedLists.{nth}
 
 other_words : List Keyword
 other_words =

@@ -11,7 +11,7 @@ use Rattle.c_ast.specs.declared.operator.Selection.TheVariants as selection
 use Rattle.c_ast.specs.Productions.{Production, Level}
 use Rattle.c_ast.specs.Productions as production
 use Rattle.c_ast.proofs.lemmas.ExprViews.{expr_views}
-use Rattle.c_parse_laws.specs.PredictSets.{start, next, operand, operation, operand_next, suffix as after, left}
+use Rattle.c_ast.specs.PredictSets.{start, next, operand, operation, operand_next, suffix as after, left}
 use Rattle.c_parse_tokens.specs.declared.operators.Precedence.{Precedence}
 use Rattle.c_parse_tokens.specs.declared.operators.Precedence.TheVariants as precedence
 use Rattle.c_parse_tokens.specs.declared.operators.Suffix.{Suffix}

@@ -1,14 +1,14 @@
 -- What a function of the parser returned, against the reader of the grammar.
 use Rattle.std.specs.Prelude.{◌≡◌, ℕ, Bool, List, [], ◌∷◌, Option, Some, None, Result, Ok, Err}
-use Rattle.c_lex.specs.declared.bytes.Bytes.{Bytes}
-use Rattle.c_lex.specs.declared.name.Name.{Name}
+use Rattle.base.specs.declared.bytes.Bytes.{Bytes}
+use Rattle.base.specs.declared.name.Name.{Name}
 use Rattle.c_lex.specs.declared.token.Token.{Token}
 use Rattle.c_lex.specs.declared.token.TokenKind.{TokenKind}
 use Rattle.c_lex.specs.declared.token.TokenKind.TheVariants as kind
 use Rattle.c_ast.specs.declared.token.Span.{Span}
 use Rattle.c_ast.specs.Tree.{Tree}
-use Rattle.c_parse_laws.specs.Reader.{ReadResult, Read, SyntaxError, OutOfFuel}
-use Rattle.c_parse_laws.specs.PredictSets.{head}
+use Rattle.c_ast.specs.Reader.{ReadResult, Read, SyntaxError, OutOfFuel}
+use Rattle.c_ast.specs.PredictSets.{head}
 use Rattle.c_parse_tokens.specs.declared.fault.Fault.{Fault}
 use Rattle.c_parse_tokens.specs.declared.fault.Fault.TheVariants as fault
 

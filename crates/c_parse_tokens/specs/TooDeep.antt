@@ -1,6 +1,6 @@
 -- The first token that is nested too deep.
 use Rattle.std.specs.Prelude.{◌≡◌, ℕ, ◌<◌, ◌≤◌, List, [], ◌∷◌, ◌++◌}
-use Rattle.limits.specs.Limits.{most_nesting}
+use Rattle.base.specs.Limits.{most_nesting}
 use Rattle.c_lex.specs.declared.token.Token.{Token}
 use Rattle.c_ast.specs.Nesting.{depth}
 use Rattle.c_ast.specs.Spelling.{kinds}

@@ -1,13 +1,13 @@
 //! What the next tokens begin.
-#![tactic(auto, unfolding(c_ast::specs::Terminals::is, c_ast::specs::Terminals::keyword_number, c_ast::specs::Terminals::mark_number, c_ast::specs::Terminals::is_inc_dec_mark, c_ast::specs::Terminals::is_unary_mark, c_parse_laws::specs::PredictSets::base, c_parse_laws::specs::PredictSets::plain_spec, c_parse_laws::specs::PredictSets::spec, c_parse_laws::specs::PredictSets::begins_base, c_parse_laws::specs::PredictSets::begins_type, c_parse_laws::specs::PredictSets::begins_expr, c_parse_laws::specs::PredictSets::typed, c_parse_laws::specs::PredictSets::stmt, c_parse_laws::specs::PredictSets::keyword_stmt, c_parse_laws::specs::PredictSets::group_label, c_parse_laws::specs::PredictSets::external))]
+#![tactic(auto, unfolding(c_ast::specs::Terminals::is, c_ast::specs::Terminals::keyword_number, c_ast::specs::Terminals::mark_number, c_ast::specs::Terminals::is_inc_dec_mark, c_ast::specs::Terminals::is_unary_mark, c_ast::specs::PredictSets::base, c_ast::specs::PredictSets::plain_spec, c_ast::specs::PredictSets::spec, c_ast::specs::PredictSets::begins_base, c_ast::specs::PredictSets::begins_type, c_ast::specs::PredictSets::begins_expr, c_ast::specs::PredictSets::typed, c_ast::specs::PredictSets::stmt, c_ast::specs::PredictSets::keyword_stmt, c_ast::specs::PredictSets::group_label, c_ast::specs::PredictSets::external))]
 
 ghost use Rattle.std.specs.Prelude.{◌≡◌, option_map, IfSome, false, ◌&&◌};
 ghost use Rattle.c_lex.specs.declared.punct.Punct.TheVariants as m;
 ghost use Rattle.c_ast.specs.Terminals.{is, Mark, AnyName};
 ghost use Rattle.std.specs.Option.{option_and_then};
 ghost use Rattle.c_ast.specs.Productions as production;
-ghost use Rattle.c_parse_laws.specs.PredictSets as predict;
-ghost use Rattle.c_parse_laws.specs.PredictSets.{head, at, typed, begins_type, begins_expr};
+ghost use Rattle.c_ast.specs.PredictSets as predict;
+ghost use Rattle.c_ast.specs.PredictSets.{head, at, typed, begins_type, begins_expr};
 ghost use Rattle.c_parse_tokens.specs.Ahead.{base_production, spec_production, stmt_production, case_production, external_production, starts_struct};
 
 use crate::tokens::Tokens;

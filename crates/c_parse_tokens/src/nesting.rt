@@ -5,14 +5,14 @@ ghost use Rattle.std.specs.Prelude.{◌≡◌, ◌≤◌, ◌<◌, [], ◌∷◌
 ghost use Rattle.c_ast.specs.Nesting.{raised, popped, ended, after_mark, after_token, is_counted, depth_of, depth};
 ghost use Rattle.c_ast.specs.Spelling.{kinds};
 ghost use Rattle.c_ast.specs.Terminals.{is, ThisKeyword};
-ghost use Rattle.c_parse_laws.specs.PredictSets.{head, at};
-ghost use Rattle.limits.specs.Limits.{most_nesting};
+ghost use Rattle.c_ast.specs.PredictSets.{head, at};
+ghost use Rattle.base.specs.Limits.{most_nesting};
 ghost use Rattle.c_lex.specs.declared.keyword.Keyword.TheVariants as word;
 ghost use Rattle.c_parse_tokens.specs.Counters.{cleared};
 ghost use Rattle.c_parse_tokens.specs.TooDeep.{FirstTooDeep};
 
+use base::MOST_NESTING;
 use c_lex::{Keyword, Punct, Token, TokenKind};
-use limits::MOST_NESTING;
 use std::marker::Model;
 
 const MAX_DEPTH: u8 = MOST_NESTING as u8;

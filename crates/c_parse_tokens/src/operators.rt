@@ -1,5 +1,5 @@
 //! Operands, and the operators that go on after them.
-#![tactic(auto, using(crate::proofs::OperandLemmas::operands), unfolding(c_ast::specs::Nonterminals::nonterminal_number, c_ast::specs::Nonterminals::level_number, c_ast::specs::Grammar::tighter, c_ast::specs::Grammar::rule, c_ast::specs::Grammar::allowed, c_parse_laws::specs::Reader::production_of, c_parse_laws::specs::PredictSets::left, c_parse_laws::specs::PredictSets::operation, c_parse_laws::specs::PredictSets::suffix, crate::specs::Operands::nonterminal_of, c_ast::specs::Terminals::is, c_ast::specs::Terminals::is_inc_dec_mark, c_ast::specs::Terminals::is_unary_mark, c_ast::specs::Terminals::is_assign_mark, c_ast::specs::Terminals::operator_level, c_ast::specs::Operators::selection_mark, c_ast::specs::Operators::selection_production, c_ast::specs::Operators::inc_dec_mark, c_ast::specs::Operators::unary_mark, c_ast::specs::Operators::binary_mark, c_ast::specs::Operators::binary_level, c_ast::specs::Operators::assign_mark, c_parse_laws::specs::PredictSets::mark_suffix, c_parse_laws::specs::PredictSets::operand, c_parse_laws::specs::PredictSets::operand_mark, c_parse_laws::specs::PredictSets::parenthesis, c_ast::specs::Nonterminals::same_nonterminal))]
+#![tactic(auto, using(crate::proofs::OperandLemmas::operands), unfolding(c_ast::specs::Nonterminals::nonterminal_number, c_ast::specs::Nonterminals::level_number, c_ast::specs::Grammar::tighter, c_ast::specs::Grammar::rule, c_ast::specs::Grammar::allowed, c_ast::specs::Reader::production_of, c_ast::specs::PredictSets::left, c_ast::specs::PredictSets::operation, c_ast::specs::PredictSets::suffix, crate::specs::Operands::nonterminal_of, c_ast::specs::Terminals::is, c_ast::specs::Terminals::is_inc_dec_mark, c_ast::specs::Terminals::is_unary_mark, c_ast::specs::Terminals::is_assign_mark, c_ast::specs::Terminals::operator_level, c_ast::specs::Operators::selection_mark, c_ast::specs::Operators::selection_production, c_ast::specs::Operators::inc_dec_mark, c_ast::specs::Operators::unary_mark, c_ast::specs::Operators::binary_mark, c_ast::specs::Operators::binary_level, c_ast::specs::Operators::assign_mark, c_ast::specs::PredictSets::mark_suffix, c_ast::specs::PredictSets::operand, c_ast::specs::PredictSets::operand_mark, c_ast::specs::PredictSets::parenthesis, c_ast::specs::Nonterminals::same_nonterminal))]
 
 ghost use Rattle.std.specs.Prelude.{◌≡◌, nat_le, option_map, IfSome};
 ghost use Rattle.c_lex.specs.declared.token.TokenKind.TheVariants as kind;
@@ -9,9 +9,9 @@ ghost use Rattle.c_ast.specs.Nonterminals.{nonterminal_number};
 ghost use Rattle.c_ast.specs.Expressions.{expr_tree};
 ghost use Rattle.c_ast.specs.Grammar.{tighter, rule, allowed};
 ghost use Rattle.c_ast.specs.Operators.{binary_level, binary_mark};
-ghost use Rattle.c_parse_laws.specs.Reader.{production_of};
-ghost use Rattle.c_parse_laws.specs.PredictSets as predict;
-ghost use Rattle.c_parse_laws.specs.PredictSets.{head, typed, mark_suffix, start, next};
+ghost use Rattle.c_ast.specs.Reader.{production_of};
+ghost use Rattle.c_ast.specs.PredictSets as predict;
+ghost use Rattle.c_ast.specs.PredictSets.{head, typed, mark_suffix, start, next};
 ghost use Rattle.c_parse_tokens.specs.Operands.{nonterminal_of, operand_of, operand_production, suffix_production, suffix_mark, StartsAt, prefix_production};
 ghost use Rattle.c_ast.specs.Terminals.{operator_level};
 

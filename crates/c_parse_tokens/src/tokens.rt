@@ -6,13 +6,14 @@ ghost use Rattle.std.specs.Option.{option_copied, option_and_then};
 ghost use Rattle.c_ast.specs.Nodes.{mark, word, name};
 ghost use Rattle.c_ast.specs.Terminals.{Mark, ThisKeyword, AnyName, is};
 ghost use Rattle.c_ast.specs.Terminals as spec;
-ghost use Rattle.c_parse_laws.specs.Reader.{token};
-ghost use Rattle.c_parse_laws.specs.PredictSets.{head, at};
+ghost use Rattle.c_ast.specs.Reader.{token};
+ghost use Rattle.c_ast.specs.PredictSets.{head, at};
 ghost use Rattle.c_parse_tokens.specs.Reading.{offset_of, Gives, Takes, name_of};
 
 use crate::fault::Fault;
+use base::Name;
 use c_ast::{Identifier, Span};
-use c_lex::{Keyword, Name, Punct, Token, TokenKind};
+use c_lex::{Keyword, Punct, Token, TokenKind};
 use std::alloc::Global;
 use std::marker::Model;
 

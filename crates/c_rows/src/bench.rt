@@ -4,11 +4,11 @@
 use crate::lambdas::count_lines;
 use crate::places::{Shape, lines};
 use a_place::place;
+use base::NoMemory;
 use c_check::check;
 use c_check_scope::{Members, Names, Scopes};
 use c_lex::{Punct, Token, TokenKind, lex};
 use c_parse::parse;
-use no_memory::NoMemory;
 use rv_isa::decode;
 use std::alloc::Global;
 use std::env::Args;

@@ -2,10 +2,10 @@
 //! the rule that is broken, its name and the place.
 
 use crate::sources::{length_of, source_of};
+use base::NoMemory;
 use c_check::{CheckFault, check};
 use c_lex::lex;
 use c_parse::parse;
-use no_memory::NoMemory;
 
 fn say_fault(out: &mut String, fault: CheckFault) -> Result<(), NoMemory> {
     let (rule, at) = match fault {

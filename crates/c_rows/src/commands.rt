@@ -1,8 +1,8 @@
 //! Commands. A row is a list of arguments after the name of the program, with a blank between two;
 //! an empty row has none. What command they are is said.
 
+use base::NoMemory;
 use cc_command::{Command, parse_command};
-use no_memory::NoMemory;
 use s_linear::CodeForm;
 use std::alloc::Global;
 

@@ -4,10 +4,11 @@
 
 use crate::operands::{constant_of, type_named};
 use crate::signs::{binary_of, unary_of};
-use c_operator::{Operand, binary, constant_value, converted, is_null_constant, unary, value};
+use base::NoMemory;
+use c_check_def::Operand;
+use c_operator::{binary, constant_value, converted, is_null_constant, unary, value};
 use c_type::Types;
 use c_typed::TExpr;
-use no_memory::NoMemory;
 use std::alloc::Global;
 
 // The constants: a type and a word of `int` or `unsigned int` that is converted to it.

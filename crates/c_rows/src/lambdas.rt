@@ -1,8 +1,8 @@
 //! Lambdas of given shapes and sizes, and how many lines of linear code they have.
 ghost use Rattle.std.specs.Prelude.{◌≤◌};
 
+use base::NoMemory;
 use g_graph::{Kind, Lambda, Node, Op, Origin, Region, check, values};
-use no_memory::NoMemory;
 use s_sequence::sequence;
 use smallvec::SmallVec;
 use std::alloc::Global;

@@ -16,11 +16,11 @@
 //!     struct D { unsigned char c[5]; struct A a[2]; struct C d; signed char e; };
 
 use crate::sources::source_of;
+use base::NoMemory;
 use c_type::{
     CType, DefineFault, Scalar, Types, align_of, are_laid_out, is_complete, is_laid_out, leaves,
     offset_of, size_of,
 };
-use no_memory::NoMemory;
 use std::alloc::Global;
 use val_core::Leaf;
 

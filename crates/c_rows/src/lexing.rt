@@ -3,8 +3,8 @@
 //! said how many they are; of a source that is refused its fault.
 
 use crate::sources::source_of;
-use c_lex::{Bytes, Keyword, Token, TokenKind, lex};
-use no_memory::NoMemory;
+use base::{Bytes, NoMemory};
+use c_lex::{Keyword, Token, TokenKind, lex};
 use std::alloc::Global;
 
 /// The bytes that a text stands for, in which `%` and two hexadecimal digits are a byte.

@@ -32,7 +32,7 @@ use crate::lexing::say_tokens;
 use crate::operators::say_table;
 use crate::parsing::say_parsed;
 use crate::scopes::say_calls;
-use no_memory::NoMemory;
+use base::NoMemory;
 use std::rt::Env;
 use std::{env, io};
 

@@ -1,10 +1,10 @@
 //! The operands of the tables, by their names.
 
 use crate::layouts::type_of;
-use c_operator::Operand;
+use base::NoMemory;
+use c_check_def::Operand;
 use c_type::CType;
 use c_typed::{ExprForm, PlaceForm, TExpr, TPlace};
-use no_memory::NoMemory;
 use std::alloc::Global;
 use std::sync::Arc;
 

@@ -10,13 +10,14 @@ use crate::constants::say_constants;
 use crate::layouts::define;
 use crate::operands::{OPERANDS, operand_of, type_named};
 use crate::signs::{assign_of, binary_of, inc_dec_of, selection_of, unary_of};
+use base::NoMemory;
+use c_check_def::Operand;
 use c_operator::{
-    Operand, assigned, binary, cast, condition, conditional, index, is_assignable, member,
-    operand_type, selected_tag, size_of_type, step, unary,
+    assigned, binary, cast, condition, conditional, index, is_assignable, member, operand_type,
+    selected_tag, size_of_type, step, unary,
 };
 use c_type::{CType, Scalar, TypeForm, Types};
 use c_typed::{ExprForm, TExpr};
-use no_memory::NoMemory;
 use std::alloc::Global;
 
 // What an operator makes.

@@ -3,9 +3,9 @@
 //! ended after them.
 
 use crate::sources::{length_of, source_of};
+use base::NoMemory;
 use c_lex::{Token, lex};
 use c_parse::{ParseFault, parse};
-use no_memory::NoMemory;
 
 // Says the answer on tokens of a source of this length.
 fn say_tree(out: &mut String, tokens: &[Token], length: u32) -> Result<(), NoMemory> {

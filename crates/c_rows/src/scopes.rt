@@ -6,9 +6,8 @@
 //! for it. `.x` inserts x into a set of names, `=3` makes the set the members of the struct of tag
 //! 3, and `3.x` asks for its member x.
 
+use base::{Name, NoMemory};
 use c_check_scope::{Members, Names, Scopes, Tags};
-use c_lex::Name;
-use no_memory::NoMemory;
 use std::alloc::Global;
 use std::mem;
 

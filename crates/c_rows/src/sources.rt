@@ -1,6 +1,6 @@
 //! Sources of rows, which are written in short.
 
-use no_memory::NoMemory;
+use base::NoMemory;
 use std::alloc::Global;
 
 // Appends the text, each `#` in it written as the number.

@@ -1,6 +1,6 @@
 -- One member of a struct after the other.
 use Rattle.std.proofs.Common.{◌≡◌, ℕ, suc, ◌+◌, ◌<◌, ◌≤◌, List, ◌∷◌, length, get_or, drop, sym, ap, ◌∙◌, subst, arith, add-one, drop-cons}
-use Rattle.limits.specs.Limits.{most_type_bytes}
+use Rattle.base.specs.Limits.{most_type_bytes}
 use Rattle.c_type.specs.Trees.{TypeTree, struct_type}
 use Rattle.c_type.specs.Layout.{Definitions, rounded_up, align, size, members_end, members_leaves, leaves_at, largest, members}
 use Rattle.c_type.specs.WellDefined.{AreLaidOut, MemberFits}

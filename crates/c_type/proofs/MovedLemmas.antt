@@ -1,7 +1,7 @@
 -- Leaves move with their type.
 use Rattle.std.proofs.Common.{◌≡◌, ℕ, zero, suc, ◌+◌, ◌-◌, ◌*◌, ◌^◌, ◌<◌, ◌≤◌, ◌==◌, Bool, true, false, cond, List, [], ◌∷◌, ◌++◌, map, length, drop, refl, sym, ap, ap₂, ◌∙◌, arith, length-append, suc-mul, length-drop}
 use Rattle.val_core.specs.declared.leaf.Leaf.{Leaf}
-use Rattle.limits.specs.Limits.{most_type_bytes}
+use Rattle.base.specs.Limits.{most_type_bytes}
 use Rattle.c_type.specs.Trees.{TypeTree, void_type, scalar_type, pointer_to, array_of, struct_type}
 use Rattle.c_type.specs.Layout.{Definitions, rounded_up, align, largest, size, size_by, struct_size, members_end, repeated, leaves_at, leaves_by, members_leaves, struct_leaves}
 use Rattle.c_type.specs.Moved.{moved, CanMove}

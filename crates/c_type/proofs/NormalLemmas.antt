@@ -2,8 +2,8 @@
 use Rattle.std.proofs.Common.{◌≡◌, ℕ, zero, suc, ◌+◌, ◌-◌, ◌*◌, ◌/◌, ◌<◌, ◌≤◌, ◌==◌, ◌&&◌, not, max, true, List, [], ◌∷◌, ◌++◌, length, get_or, Result, Ok, Err, refl, sym, ap, ap₂, ◌∙◌, subst, arith, inl, inr, append-nil, suc-mul, mul-le-mul_right}
 use Rattle.std.proofs.lemmas.Bool.{and_parts, cases_eq, cases_order, ne_eqb, eq-eqb}
 use Rattle.std.specs.Prelude.{IfOk}
-use Rattle.no_memory.specs.declared.NoMemory.{NoMemory}
-use Rattle.limits.specs.Limits.{most_type_bytes}
+use Rattle.base.specs.declared.no_memory.NoMemory.{NoMemory}
+use Rattle.base.specs.Limits.{most_type_bytes}
 use Rattle.val_core.specs.declared.leaf.Leaf.{Leaf}
 use Rattle.c_type.specs.Trees.{TypeTree, array_of, struct_type}
 use Rattle.c_type.specs.declared.structs.Struct.{Struct}

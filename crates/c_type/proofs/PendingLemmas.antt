@@ -1,7 +1,7 @@
 -- Steps of a listing.
 use Rattle.std.proofs.Common.{◌≡◌, ℕ, zero, suc, ◌+◌, ◌-◌, ◌*◌, ◌<◌, ◌≤◌, false, true, List, [], ◌∷◌, ◌++◌, length, drop, refl, sym, ap, ◌∙◌, subst, arith, length-append, append_assoc, add_assoc, add-zero, zero-add, suc-mul, Bor}
 use Rattle.val_core.specs.declared.leaf.Leaf.{Leaf}
-use Rattle.limits.specs.Limits.{most_type_bytes}
+use Rattle.base.specs.Limits.{most_type_bytes}
 use Rattle.c_type.specs.Trees.{TypeTree, void_type, scalar_type, pointer_to, array_of, struct_type}
 use Rattle.c_type.specs.Layout.{Definitions, is_defined, scalar_size, rounded_up, align, size, members_end, members_leaves, leaves_at, repeated, IsLaidOut}
 use Rattle.c_type.specs.WellDefined.{AreLaidOut, AreDefinitions, MemberFits}

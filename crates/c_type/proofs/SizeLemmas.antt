@@ -1,6 +1,6 @@
 -- The elements of an array that is laid out.
 use Rattle.std.proofs.Common.{◌≡◌, ℕ, zero, suc, ◌*◌, ◌≤◌, ◌==◌, not, true, refl, arith, suc-mul}
-use Rattle.limits.specs.Limits.{most_type_bytes}
+use Rattle.base.specs.Limits.{most_type_bytes}
 use Rattle.std.proofs.lemmas.Bool.{and_parts}
 use Rattle.c_type.specs.Trees.{TypeTree, array_of}
 use Rattle.c_type.specs.Layout.{Definitions, is_complete, size, IsLaidOut}

@@ -1,6 +1,6 @@
 -- Members that are laid out one after the other.
 use Rattle.std.specs.Prelude.{◌≡◌, ℕ, ◌+◌, ◌<◌, ◌≤◌, max, List, length, slice_index}
-use Rattle.limits.specs.Limits.{most_type_bytes}
+use Rattle.base.specs.Limits.{most_type_bytes}
 use Rattle.c_type.specs.Trees.{TypeTree}
 use Rattle.c_type.specs.Layout.{Definitions, rounded_up, align, largest, size, members_end, offset_from}
 use Rattle.c_type.specs.WellDefined.{AreLaidOut}

@@ -1,7 +1,7 @@
 -- The layout of a struct by its members alone (ISO/IEC 9899:2011, 6.7.2.1p15).
 use Rattle.std.specs.Prelude.{◌≡◌, ℕ, ◌<◌, ◌≤◌, List, length}
 use Rattle.val_core.specs.declared.leaf.Leaf.{Leaf}
-use Rattle.limits.specs.Limits.{most_type_bytes}
+use Rattle.base.specs.Limits.{most_type_bytes}
 use Rattle.c_type.specs.Trees.{TypeTree}
 use Rattle.c_type.specs.Layout.{Definitions, rounded_up, align, struct_align, largest, size, struct_size, members_end, offset, offset_from, leaves_at, struct_leaves, members_leaves, members}
 use Rattle.c_type.specs.WellDefined.{AreLaidOut}

@@ -13,5 +13,3 @@ pub mod DefinitionEncoding
 pub mod Structs
 pub mod Kept
 pub mod Pending
--- What is passed on of the libraries below.
-pub use Rattle.val_core.specs as val_core

@@ -1,7 +1,7 @@
 -- What is still to be listed while leaves are listed.
 use Rattle.std.specs.Prelude.{◌≡◌, ℕ, ◌+◌, ◌-◌, ◌*◌, ◌<◌, ◌≤◌, if◌then◌else◌, List, [], ◌∷◌, ◌++◌, length, drop}
 use Rattle.val_core.specs.declared.leaf.Leaf.{Leaf}
-use Rattle.limits.specs.Limits.{most_type_bytes}
+use Rattle.base.specs.Limits.{most_type_bytes}
 use Rattle.c_type.specs.Trees.{TypeTree, tree_height}
 use Rattle.c_type.specs.Layout.{Definitions, align, size, members_end, members_leaves, leaves_at, repeated, IsLaidOut}
 use Rattle.c_type.specs.WellDefined.{AreLaidOut, AreDefinitions}

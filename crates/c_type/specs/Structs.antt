@@ -1,6 +1,6 @@
 -- The structs of the code, with what they occupy.
 use Rattle.std.specs.Prelude.{◌≡◌, ℕ, ◌^◌, ◌<◌, ◌≤◌, ◌⊎◌, List, [], ◌∷◌, length, slice_index, slice_get, Some}
-use Rattle.limits.specs.Limits.{most_type_bytes}
+use Rattle.base.specs.Limits.{most_type_bytes}
 use Rattle.c_type.specs.Layout.{Definitions, struct_size, struct_align, offset, members}
 use Rattle.c_type.specs.WellDefined.{AreDefinitions}
 use Rattle.c_type.specs.Normal.{AreNormalOf}

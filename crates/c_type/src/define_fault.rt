@@ -33,10 +33,10 @@ impl<T: Drop> From<AllocFailed<T>> for DefineFault {
     }
 }
 
-impl From<no_memory::NoMemory> for DefineFault {
+impl From<base::NoMemory> for DefineFault {
     ghost from_gives = { λ _ e. e ≡ NoMemory };
 
-    fn from(_e: no_memory::NoMemory) -> DefineFault {
+    fn from(_e: base::NoMemory) -> DefineFault {
         DefineFault::NoMemory
     }
 }

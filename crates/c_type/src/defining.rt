@@ -1,7 +1,7 @@
 //! The offsets, size and alignment of a struct, and the index of its tag.
 
 ghost use Rattle.std.specs.Prelude.{◌≡◌, ◌+◌, ◌<◌, max, length, IfOk, OnOk, IfErr};
-ghost use Rattle.limits.specs.Limits.{most_type_bytes};
+ghost use Rattle.base.specs.Limits.{most_type_bytes};
 ghost use Rattle.c_type.specs.WellDefined.{AreLaidOut};
 ghost use Rattle.c_type.specs.LaidUpTo.{IsLaid, struct_bytes};
 ghost use Rattle.c_type.specs.Structs.{Pads};
@@ -11,7 +11,7 @@ use crate::define_fault::DefineFault;
 use crate::layout::{align_of, rounded_up, size_of};
 use crate::structs::Types;
 use crate::trees::CType;
-use limits::MOST_TYPE_BYTES;
+use base::MOST_TYPE_BYTES;
 use std::alloc::{AllocError, Global};
 
 // What stands for the index of a tag that has none.

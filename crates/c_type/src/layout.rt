@@ -1,14 +1,14 @@
 //! Completeness, sizes, alignments and offsets of types.
 
 ghost use Rattle.std.specs.Prelude.{◌≡◌, ◌+◌, ◌*◌, ◌<◌, ◌≤◌, ◌^◌, true, length, ◌↔◌, IsTrue, SomeIff};
-ghost use Rattle.limits.specs.Limits.{most_type_bytes};
+ghost use Rattle.base.specs.Limits.{most_type_bytes};
 ghost use Rattle.c_type.specs.WellDefined.{AreLaidOut};
 ghost use Rattle.c_type.specs.Layout.{is_complete, is_defined, rounded_up, scalar_size, align, size, offset, members, IsLaidOut};
 
 use crate::scalar::Scalar;
 use crate::structs::Types;
 use crate::trees::{CType, TypeForm};
-use limits::MOST_TYPE_BYTES;
+use base::MOST_TYPE_BYTES;
 
 /// Whether the type is complete (ISO/IEC 9899:2011, 6.2.5p1): no `void`, and no struct without a
 /// definition, or an array of these or of no elements.

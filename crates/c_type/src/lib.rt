@@ -3,9 +3,6 @@
 //! Always: a defined struct has at most 1,048,576 bytes.
 #![tactic(auto)]
 
-// What is passed on of the libraries below.
-pub use val_core;
-
 mod define_fault;
 mod defining;
 pub mod laws;
@@ -17,13 +14,13 @@ mod scalar;
 mod structs;
 mod trees;
 
+pub use base::Steps;
 pub use define_fault::DefineFault;
 pub use layout::{
     align_of, are_laid_out, bounded_size, is_complete, is_laid_out, offset_of, size_of,
 };
 pub use listing::{counted_leaves, leaves};
 pub use scalar::Scalar;
-pub use steps::Steps;
 pub use structs::Types;
 pub use trees::{CType, TypeForm};
 pub use val_core::Leaf;

@@ -9,11 +9,10 @@ ghost use Rattle.c_type.specs.Pending.{CanGoOn, HasGoneOn, IsBegun};
 use crate::layout::{align_of, rounded_up, size_of, width};
 use crate::structs::Types;
 use crate::trees::{CType, TypeForm};
-use no_memory::NoMemory;
+use base::{NoMemory, Steps};
 use std::alloc::Global;
 use std::marker::Brand;
 use std::sync::ledger::{Blank, Ledger};
-use steps::Steps;
 use val_core::Leaf;
 
 // What is still to be listed. Structs nest thousands deep, so there is no recursion on them.

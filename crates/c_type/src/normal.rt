@@ -10,7 +10,7 @@ ghost use Rattle.c_type.specs.WellDefined.{AreLaidOut};
 use crate::scalar::Scalar;
 use crate::structs::Types;
 use crate::trees::{CType, TypeForm};
-use no_memory::NoMemory;
+use base::NoMemory;
 use std::alloc::Global;
 
 // A normal type that occupies what a complete one does. A pointer occupies what an `int` does.

@@ -5,7 +5,7 @@ ghost use Rattle.c_type.specs.Trees.{pointer_to, array_of, scalar_type, struct_t
 
 use crate::scalar::Scalar;
 use crate::trees::{CType, TypeForm};
-use no_memory::NoMemory;
+use base::NoMemory;
 use std::alloc::Global;
 
 impl CType {

@@ -1,7 +1,7 @@
 //! The struct definitions of a program.
 
 ghost use Rattle.std.specs.Prelude.{◌≡◌, ◌<◌, ◌≤◌, ◌^◌, ◌-◌, ◌∷◌, ◌↔◌, [], false, length, OnOk, OnErr, IfOk, IfErr, IsTrue, MatchOption, option_copied, option_and_then, slice_get};
-ghost use Rattle.limits.specs.Limits.{most_type_bytes};
+ghost use Rattle.base.specs.Limits.{most_type_bytes};
 ghost use Rattle.c_type.specs.Layout.{is_defined, members, struct_size};
 ghost use Rattle.c_type.specs.WellDefined.{AreDefinitions, AreLaidOut};
 ghost use Rattle.c_type.specs.declared.define_fault.DefineFault.TheVariants.{TooLarge, NoMemory};

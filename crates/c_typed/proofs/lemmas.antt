@@ -1,2 +1,1 @@
--- Lemmas and short forms that crates above cite.
 pub mod ShortForms

@@ -8,6 +8,3 @@ pub mod StmtViews
 pub mod StmtHeight
 pub mod WellTyped
 pub mod Objects
--- What is passed on of the libraries below.
-pub use Rattle.c_type.specs as c_type
-pub use Rattle.c_type.specs.val_core

@@ -1,9 +1,9 @@
 -- Which typed programs are well typed: the operands of each form have the types that it asks for (ISO/IEC 9899:2011, 6.5),
 -- names stand for what is in scope, jumps stand where they may (6.8.6), and initialisers fit what they begin (6.7.9).
 use Rattle.std.specs.Prelude.{◌≡◌, ◌≢◌, ℕ, suc, ◌+◌, ◌*◌, ◌^◌, ◌<◌, ◌≤◌, ◌⊎◌, if◌then◌else◌, Bool, true, false, List, [], ◌∷◌, ◌++◌, map, length, take, slice_get, Some, codes}
-use Rattle.c_type.specs.val_core.declared.leaf.Leaf.{Leaf}
-use Rattle.c_type.specs.val_core.declared.operation.Op2.{Op2}
-use Rattle.c_type.specs.val_core.declared.operation.Op2.TheVariants as op
+use Rattle.val_core.specs.declared.leaf.Leaf.{Leaf}
+use Rattle.val_core.specs.declared.operation.Op2.{Op2}
+use Rattle.val_core.specs.declared.operation.Op2.TheVariants as op
 use Rattle.c_type.specs.declared.scalar.Scalar.TheVariants.{Int, UnsignedInt}
 use Rattle.c_type.specs.Trees.{TypeTree, void_type, scalar_type, pointer_to, array_of, struct_type}
 use Rattle.c_type.specs.Layout.{Definitions, is_complete, size, offset, leaves, members, IsLaidOut}

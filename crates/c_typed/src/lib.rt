@@ -3,9 +3,6 @@
 //! literals are globals. Contracts see it as plain trees.
 #![tactic(auto)]
 
-// What is passed on of the libraries below.
-pub use c_type;
-
 mod expression;
 mod operator;
 mod program;

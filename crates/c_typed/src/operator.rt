@@ -1,6 +1,6 @@
 //! The operators of typed expressions.
 
-use c_type::val_core::Op2;
+use val_core::Op2;
 
 /// A comparison (ISO/IEC 9899:2011, 6.5.8, 6.5.9). Its operands have one type, which says whether
 /// it is of signed numbers, of unsigned numbers or of addresses.

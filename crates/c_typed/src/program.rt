@@ -1,7 +1,7 @@
 //! Typed programs: functions with their variables, and globals.
 
 use crate::Item;
-use c_lex::{Bytes, Name};
+use base::{Bytes, Name};
 use c_type::{CType, Types};
 use std::marker::Model;
 use std::sync::Arc;

@@ -1,7 +1,7 @@
 //! Typed statements, declarations in blocks, and initial values.
 
 use crate::TExpr;
-use c_lex::Bytes;
+use base::Bytes;
 use std::marker::Model;
 
 /// A statement (ISO/IEC 9899:2011, 6.8). A `while` is a loop without step, and a `for` a block of

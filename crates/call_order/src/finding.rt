@@ -7,7 +7,7 @@ ghost use Rattle.call_order.specs.Search.{rank_in, unit_in};
 use crate::answer::Units;
 use crate::search::Search;
 use crate::stages::{Stage, rank_in, unit_in};
-use no_memory::NoMemory;
+use base::NoMemory;
 use std::alloc::{AllocError, Global};
 
 /// The units and ranks of functions; `calls` has for each the list of the functions that it calls,

@@ -2,7 +2,7 @@
 use Rattle.std.specs.Prelude.{ℕ, Bool, ◌*◌, ◌+◌, ◌-◌, ◌&&◌, List, [], ◌∷◌, Option, Some, None, codes, fold, length, nat_le, if◌then◌else◌, option_map}
 use Rattle.std.specs.List.{list_all}
 use Rattle.std.specs.Str.{bytes_eq}
-use Rattle.limits.specs.Limits.{most_workers, most_steps, most_generated_functions}
+use Rattle.base.specs.Limits.{most_workers, most_steps, most_generated_functions}
 use Rattle.s_linear.specs.declared.frame.CodeForm.{CodeForm}
 use Rattle.s_linear.specs.declared.frame.CodeForm.TheVariants.{Plain, Tight}
 use Rattle.cc_command.specs.ParsedArguments.{Text}

@@ -1,6 +1,6 @@
 -- The plain form of a parsed command.
 use Rattle.std.specs.Prelude.{◌≤◌, option_map}
-use Rattle.limits.specs.Limits.{most_workers}
+use Rattle.base.specs.Limits.{most_workers}
 use Rattle.cc_command.specs.Command.{Command, accept, build, run, generate, check, session, interpret}
 use Rattle.cc_command.specs.declared.arguments.Command.{Command as Parsed}
 use Rattle.cc_command.specs.declared.arguments.Command.TheVariants.{Accept, Build, Run, Generate, Check, Session, Interpret}

@@ -2,7 +2,7 @@
 
 ghost use Rattle.std.specs.Prelude.{◌≡◌, ◌≤◌, false, Some, map, option_and_then, option_map, IfOk, IfSome};
 ghost use Rattle.std.specs.String.{string_bytes};
-ghost use Rattle.limits.specs.Limits.{most_workers};
+ghost use Rattle.base.specs.Limits.{most_workers};
 ghost use Rattle.clap.specs.Words.{app_of, first_of, found_of, rows_of, shape_of, subcommand_rows_of};
 ghost use Rattle.clap.specs.declared.builder.command.Command.TheViews.{out-Command as fields_of};
 ghost use Rattle.cc_command.specs.Arguments.{rvcc, shape_of_form};
@@ -13,9 +13,9 @@ ghost use Rattle.cc_command.specs.PlainCommand.{plain_command, IsInRange};
 
 use crate::numbers::number_in;
 use crate::reader::{help_is_asked, value, with_option, with_required};
+use base::{MOST_GENERATED_FUNCTIONS, MOST_STEPS, MOST_WORKERS};
 use clap::error::ErrorKind;
 use clap::{ArgMatches, Command as Reader};
-use limits::{MOST_GENERATED_FUNCTIONS, MOST_STEPS, MOST_WORKERS};
 use s_linear::CodeForm;
 use std::alloc::{AllocError, Global};
 

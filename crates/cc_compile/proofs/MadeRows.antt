@@ -5,7 +5,7 @@ use Rattle.std.proofs.lemmas.List.{length-map, take_all, take_more}
 use Rattle.std.proofs.lemmas.Slice.Zip.{length-zip, get_or-zip}
 use Rattle.c_typed.specs.Typed.{FunctionTree, ProgramTree}
 use Rattle.g_graph.specs.Plain.{PlainOptimised}
-use Rattle.cc_emit_def.specs.Image.{lambdas_of}
+use Rattle.cc_emit.specs.Image.{lambdas_of}
 use Rattle.cc_compile.specs.Compiled.{row_of, rows_of}
 
 lambda_in : (answers : List PlainOptimised) (n : ℕ) (o : PlainOptimised) → n < length answers → o ≡ get_or answers n o → slice_get (lambdas_of answers) n ≡ Some o.lambda

@@ -1,8 +1,8 @@
 -- A text that is of no recipe.
 use Rattle.std.proofs.Common.{◌≢◌, ◌≤◌, ℕ, List, length}
-use Rattle.limits.specs.Limits.{most_sweeps}
+use Rattle.base.specs.Limits.{most_sweeps}
 use Rattle.g_graph.specs.declared.steps.Rule.{Rule}
-use Rattle.g_pass_keeps.specs.g_pass.Recipe.{recipe_text}
+use Rattle.g_pass.specs.Recipe.{recipe_text}
 use Rattle.cc_compile.specs.RecipeText.{IsTextOf}
 
 pub no_recipe : (text : List ℕ) → ((rules : List Rule) → length rules ≤ most_sweeps → text ≢ recipe_text rules) → (recipe : List Rule) → IsTextOf recipe text → ⊥

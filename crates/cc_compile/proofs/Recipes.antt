@@ -3,12 +3,12 @@ use Rattle.std.proofs.Common.{◌≡◌, List, [], ◌∷◌, map, refl, sym, ap
 use Rattle.g_graph.specs.Plain.{PlainLambda}
 use Rattle.g_graph.specs.Program.{lambda_values}
 use Rattle.g_build_def.specs.Functions.{graph, omega}
-use Rattle.cc_source_keeps.specs.g_build_laws.BuiltLaws.{WellTypedAreBuilt}
+use Rattle.g_build_keeps.specs.BuiltLaws.{WellTypedAreBuilt}
 use Rattle.g_pass_def.specs.Laws.{AnswersAreUnique, UnsweptAnswersAreLambdas}
-use Rattle.g_pass_keeps.specs.g_pass.Sweep.{rules}
-use Rattle.g_pass_keeps.specs.Laws.{AnswersKeepLists}
-use Rattle.cc_emit_def.specs.Image.{file_of_program, lambdas_of}
-use Rattle.cc_source_keeps.specs.Laws.{KeptListsCanBeEmitted}
+use Rattle.g_pass.specs.Sweep.{rules}
+use Rattle.g_pass.specs.MeaningLaws.{AnswersKeepLists}
+use Rattle.cc_emit.specs.Image.{file_of_program, lambdas_of}
+use Rattle.cc_source.specs.Laws.{KeptListsCanBeEmitted}
 use Rattle.cc_compile.specs.Compiled.{rows_of, AnswersCanBeEmitted, OneImage, OneListOfRows, UnsweptImage}
 
 pub answers_can_be_emitted : WellTypedAreBuilt → KeptListsCanBeEmitted → AnswersKeepLists → AnswersCanBeEmitted

@@ -7,11 +7,11 @@ use Rattle.g_graph.specs.declared.steps.Rule.{Rule}
 use Rattle.g_graph.specs.Plain.{PlainOptimised}
 use Rattle.g_graph.specs.Program.{lambda_values}
 use Rattle.g_build_def.specs.Functions.{graph, omega}
-use Rattle.cc_source_keeps.specs.g_build.Passed.{limit_passed}
+use Rattle.g_build.specs.Passed.{limit_passed}
 use Rattle.g_pass_def.specs.Answers.{AreAnswers}
-use Rattle.g_pass_keeps.specs.g_pass.Sweep.{rules}
+use Rattle.g_pass.specs.Sweep.{rules}
 use Rattle.s_linear.specs.declared.frame.CodeForm.{CodeForm}
-use Rattle.cc_emit_def.specs.Image.{file_of_program, lambdas_of, CanEmit}
+use Rattle.cc_emit.specs.Image.{file_of_program, lambdas_of, CanEmit}
 use Rattle.cc_watch.specs.Rows.{PlainRow}
 
 -- the image, in a form of code, of a program whose functions are as they are built

@@ -6,9 +6,9 @@ ghost use Rattle.cc_compile.specs.Compiled.{AnswersCanBeEmitted, OneImage, OneLi
 pub fn answers_can_be_emitted()
     ensures { AnswersCanBeEmitted }
 {
-    cc_source_keeps::g_build_laws::laws::well_typed_are_built();
-    cc_source_keeps::laws::programs_can_be_emitted();
-    g_pass_keeps::laws::answers_keep_lists();
+    g_build_keeps::graph_laws::well_typed_are_built();
+    cc_source::meaning_laws::programs_can_be_emitted();
+    g_pass::meaning_laws::answers_keep_lists();
 }
 
 /// A program has at most one image under a recipe, and one list of rows. Under the recipe without a

@@ -4,7 +4,7 @@ ghost use Rattle.std.specs.Prelude.{List, IfSome, IfNone};
 ghost use Rattle.g_graph.specs.declared.steps.Rule.{Rule};
 ghost use Rattle.cc_compile.specs.RecipeText.{IsTextOf};
 
-use g_pass_keeps::g_pass::Recipe;
+use g_pass::Recipe;
 
 /// The recipe of a text; none where it is of no recipe. It takes no memory.
 #[tactic(auto, using(crate::proofs::RecipeTexts::no_recipe))]

@@ -4,13 +4,13 @@ ghost use Rattle.std.specs.Prelude.{◌≡◌, ◌<◌, ◌^◌, ℕ, Some, map,
 ghost use Rattle.std.specs.Arc.{arc_value};
 ghost use Rattle.g_graph.specs.Plain.{PlainLambda};
 ghost use Rattle.g_graph.specs.Program.{lambda_values};
-ghost use Rattle.cc_emit_def.specs.Image.{lambdas_of};
+ghost use Rattle.cc_emit.specs.Image.{lambdas_of};
 ghost use Rattle.cc_compile.specs.Compiled.{row_of, rows_of};
 
+use base::NoMemory;
 use c_typed::{TFunction, Typed};
-use cc_watch::{Row, StepList};
-use g_graph::{Optimised, values};
-use no_memory::NoMemory;
+use cc_watch::Row;
+use g_graph::{Optimised, StepList, values};
 use std::alloc::Global;
 use std::sync::Arc;
 

@@ -1,15 +1,15 @@
 //! From a source to the file.
 
 ghost use Rattle.std.specs.Prelude.{◌≡◌, ◌<◌, ◌≤◌, length, IfErr, IfOk};
-ghost use Rattle.limits.specs.Limits.{most_workers};
+ghost use Rattle.base.specs.Limits.{most_workers};
 ghost use Rattle.c_typed.specs.Typed.{ProgramTree};
-ghost use Rattle.cc_source_keeps.specs.cc_source.Accepted.{Accepts, Refuses};
+ghost use Rattle.cc_source.specs.Accepted.{Accepts, Refuses};
 ghost use Rattle.cc_compile.specs.Compiled.{IsCompiledUnder};
 
 use crate::typed::{Compiled, compile_typed, compile_typed_by_workers};
 use board_work::Gate;
-use cc_source_keeps::cc_source::{CompileFault, typed_of};
-use g_pass_keeps::g_pass::Recipe;
+use cc_source::{CompileFault, typed_of};
+use g_pass::Recipe;
 use s_linear::CodeForm;
 use std::alloc::Global;
 use std::sync::Wait;

@@ -2,30 +2,30 @@
 
 ghost use Rattle.std.specs.Prelude.{◌≡◌, ◌<◌, ◌≤◌, None, length, map, IfOk};
 ghost use Rattle.std.specs.Arc.{arc_value};
-ghost use Rattle.limits.specs.Limits.{most_functions, most_workers};
+ghost use Rattle.base.specs.Limits.{most_functions, most_workers};
 ghost use Rattle.c_typed.specs.WellTyped.{IsWellTyped};
 ghost use Rattle.c_check_def.specs.Limits.{above_limits};
 ghost use Rattle.g_build_def.specs.Functions.{omega};
-ghost use Rattle.cc_source_keeps.specs.g_build.Answer.{limit_named};
-ghost use Rattle.cc_source_keeps.specs.g_build.Passed.{limit_passed};
+ghost use Rattle.g_build.specs.Answer.{limit_named};
+ghost use Rattle.g_build.specs.Passed.{limit_passed};
 ghost use Rattle.elf_file.specs.Written.{file_of};
 ghost use Rattle.rv_layout.specs.Layout.{item_lists};
-ghost use Rattle.cc_emit_def.specs.Image.{file_of_program, lambdas_of, CanEmit};
+ghost use Rattle.cc_emit.specs.Image.{file_of_program, lambdas_of, CanEmit};
 ghost use Rattle.cc_emit.specs.Items.{image_of_items, CanEmitItems};
 ghost use Rattle.cc_compile.specs.Compiled.{rows_of, IsCompiledUnder};
 
 use crate::laws::answers_can_be_emitted;
 use crate::rows::rows_of;
+use base::NoMemory;
 use board_work::Gate;
 use c_typed::Typed;
 use cc_emit::{all_items, emit_items};
-use cc_source_keeps::g_build::{BuildFault, build};
-use cc_source_keeps::laws::{programs_can_be_emitted, unlimited_are_small};
+use cc_source::meaning_laws::{programs_can_be_emitted, unlimited_are_small};
 use cc_watch::Row;
+use g_build::{BuildFault, build};
 use g_graph::{Omega, Optimised};
-use g_pass_keeps::g_pass::Recipe;
+use g_pass::Recipe;
 use g_pass_work::{answers, answers_by_workers};
-use no_memory::NoMemory;
 use rv_layout::Item;
 use s_linear::CodeForm;
 use std::alloc::Global;

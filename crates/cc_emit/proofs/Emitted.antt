@@ -8,10 +8,10 @@ use Rattle.s_linear.specs.declared.frame.CodeForm.{CodeForm}
 use Rattle.rv_layout.specs.declared.item.Item.{Item}
 use Rattle.rv_layout.specs.Conditions.{CanLayOut}
 use Rattle.rv_layout.specs.Layout.{laid_out}
-use Rattle.cc_emit_def.specs.Image.{function_items, main_of, image_of, CanEmit}
-use Rattle.cc_emit_def.proofs.lemmas.FunctionFits.{main_there, functions_fit}
-use Rattle.cc_emit_def.specs.Laws.{ImageIsPlaced}
-use Rattle.cc_emit_keeps.specs.Images.{KeepsLambdas, ImagesKeepMeaning}
+use Rattle.cc_emit.specs.Image.{function_items, main_of, image_of, CanEmit}
+use Rattle.cc_emit.proofs.lemmas.FunctionFits.{main_there, functions_fit}
+use Rattle.cc_emit.specs.Laws.{ImageIsPlaced}
+use Rattle.cc_emit.specs.Images.{KeepsLambdas, ImagesKeepMeaning}
 use Rattle.cc_emit.specs.Items.{image_of_items, CanEmitItems}
 
 module _ (program : PlainOmega) (functions : List (List Item)) (can : CanEmitItems program functions) where

@@ -5,7 +5,7 @@ use Rattle.g_graph.specs.Plain.{PlainLambda, PlainOmega}
 use Rattle.s_linear.specs.declared.frame.CodeForm.{CodeForm}
 use Rattle.rv_layout.specs.declared.item.Item.{Item}
 use Rattle.rv_layout.specs.Layout.{laid_out}
-use Rattle.cc_emit_def.specs.Image.{function_items, main_of, CanEmit}
+use Rattle.cc_emit.specs.Image.{function_items, main_of, CanEmit}
 
 -- the sections of a program of whose functions these are the items
 abbrev pub image_of_items : PlainOmega → List (List Item) → Sections

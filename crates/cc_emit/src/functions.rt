@@ -4,16 +4,16 @@ ghost use Rattle.std.specs.Prelude.{◌≡◌, ℕ, Some, map, slice_get, IfOk};
 ghost use Rattle.std.specs.Arc.{arc_value};
 ghost use Rattle.g_graph.specs.Plain.{PlainLambda};
 ghost use Rattle.rv_layout.specs.Layout.{item_lists};
-ghost use Rattle.cc_emit_def.specs.Image.{function_items, lambdas_of, lines_of, places_of};
-ghost use Rattle.cc_emit_def.specs.Laws.{IsFunction};
+ghost use Rattle.cc_emit.specs.Image.{function_items, lambdas_of, lines_of, places_of};
+ghost use Rattle.cc_emit.specs.Laws.{IsFunction};
 
 use a_place::{frame, place};
 use a_share::share;
-use cc_emit_def::s_select::select;
+use base::NoMemory;
 use g_graph::{Lambda, Optimised};
-use no_memory::NoMemory;
 use rv_layout::Item;
 use s_linear::{CodeForm, Linear, Places};
+use s_select::select;
 use s_sequence::sequence;
 use std::alloc::Global;
 use std::sync::Arc;
@@ -29,7 +29,7 @@ fn places(
     requires lines { linear.now ≡ lines_of lambda.now }
     ensures { IfOk result (λ p. p ≡ places_of form lambda.now) }
 {
-    cc_emit_keeps::a_place_keeps::laws::sequenced_have_own_turns();
+    a_place_keeps::laws::sequenced_have_own_turns();
     let _ = lambda;
     match form {
         CodeForm::Plain => place(alloc, linear),

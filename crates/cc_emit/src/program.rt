@@ -5,14 +5,14 @@ ghost use Rattle.std.specs.Arc.{arc_value};
 ghost use Rattle.elf_file.specs.Image.{sections_of, IsPlaced};
 ghost use Rattle.elf_file.specs.Written.{file_of};
 ghost use Rattle.rv_layout.specs.Layout.{item_lists};
-ghost use Rattle.cc_emit_def.specs.Image.{image_of, lambdas_of, main_of, CanEmit};
-ghost use Rattle.cc_emit_keeps.specs.Images.{KeepsLambdas};
+ghost use Rattle.cc_emit.specs.Image.{image_of, lambdas_of, main_of, CanEmit};
+ghost use Rattle.cc_emit.specs.Images.{KeepsLambdas};
 ghost use Rattle.cc_emit.specs.Items.{image_of_items, CanEmitItems};
 
 use crate::functions::all_items;
+use base::NoMemory;
 use elf_file::Image;
 use g_graph::{Omega, Optimised, main_index};
-use no_memory::NoMemory;
 use rv_layout::{Item, lay};
 use s_linear::CodeForm;
 use std::alloc::Global;
@@ -38,7 +38,7 @@ pub fn emit_items(alloc: Global, functions: &[Vec<Item>], omega: &Omega) -> Resu
         sections_of image ≡ image_of_items omega.now (item_lists functions.now)) }
     ensures placed { IfOk result (λ image. IsPlaced (sections_of image)) }
 {
-    cc_emit_def::laws::image_is_placed();
+    crate::image_laws::image_is_placed();
     lay(alloc, functions, &omega.deltas, main_of(omega))
 }
 
@@ -60,7 +60,7 @@ pub fn emit(
     ensures kept { IfOk result (λ image. KeepsLambdas form omega.now
         (lambdas_of (map arc_value answers.now)) (file_of (sections_of image))) }
 {
-    cc_emit_keeps::laws::images_keep_meaning();
+    crate::laws::images_keep_meaning();
     let functions = all_items(alloc, form, answers)?;
     emit_items(alloc, &functions, omega)
 }

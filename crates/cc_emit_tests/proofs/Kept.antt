@@ -4,7 +4,7 @@ use Rattle.val_core.specs.Answers.{Answer, Exited}
 use Rattle.val_core.specs.Events.{wrote}
 use Rattle.rv_machine.specs.Machine.{State, Ending, exit, stack, stuck}
 use Rattle.rv_machine.specs.Run.{Hart, running, ended, RunResult}
-use Rattle.rv_behaviour_def.specs.Behaviour.{IsKept}
+use Rattle.rv_machine.specs.Behaviour.{IsKept}
 
 -- the program writes the byte 255, as at the end of its input, and exits with status 0
 abbrev program : (bound : ℕ) → Answer ℕ

@@ -16,7 +16,7 @@ use Rattle.rv_machine.specs.Machine.{exit, act, give, jump, call, fetched, next_
 use Rattle.rv_machine.specs.Memory.{load_bytes, store_bytes, allowed, memory_of, flags_of}
 use Rattle.rv_machine.specs.Run.{RunResult, run_state, run, executed, ended}
 use Rattle.s_linear.specs.declared.frame.CodeForm.TheVariants.{Plain}
-use Rattle.cc_emit_def.specs.Image.{image_of, file_of_program}
+use Rattle.cc_emit.specs.Image.{image_of, file_of_program}
 use Rattle.cc_emit_tests.proofs.Programs.{table_main, table, pointer_main, pointer, echo_main, echo, parity_lambdas, parity, narrow_main, narrow, cleared_main, cleared}
 
 -- so many instructions of the image of a program

@@ -11,3 +11,4 @@ pub mod Memory
 pub mod StdStreams
 pub mod Buffered
 pub mod Laws
+pub mod Outside

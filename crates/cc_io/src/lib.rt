@@ -1,7 +1,8 @@
-//! The outside of the compiler: sources, sinks and files, in memory and of the system. Bytes come
-//! and go in order, none lost and none twice. Nothing is promised of what the system's streams and
-//! files hold.
-//! Always: a call fails only where a count of faults increased.
+//! The outside as traits, and what commands do with it.
+//! Bytes come and go in order, none lost and none twice. Nothing is promised of what the system's
+//! streams and files hold.
+//! Always: a call fails only where a count of faults increased. What is read of a known file is a
+//! front of what the file holds.
 #![tactic(auto)]
 
 mod buffered_sink;
@@ -13,6 +14,7 @@ mod failing;
 mod file_map;
 mod files;
 pub mod laws;
+pub mod load;
 mod mem_files;
 mod mem_sink;
 mod mem_source;

@@ -18,7 +18,7 @@ use Rattle.rv_layout.specs.Sequences.{bytes_of}
 use Rattle.rv_layout.specs.Items.{item_size, items_size, label_at}
 use Rattle.rv_layout.specs.Layout.{Addresses, addresses_of, functions_at, item_code, items_code, function_code, functions_code, text_of}
 use Rattle.s_select.specs.Templates.{line_items, items_of}
-use Rattle.cc_emit_def.specs.Image.{lines_of, function_items, code_size, main_of}
+use Rattle.cc_emit.specs.Image.{lines_of, function_items, code_size, main_of}
 use Rattle.cc_listing.specs.Lines.{count_of, lines_from}
 use Rattle.cc_listing.specs.Laws.{words_listed, code_words, lines_with_code, functions_lines, functions_with_code, WordsAreOfTheirLines}
 

@@ -4,7 +4,7 @@ use Rattle.g_graph.specs.Plain.{PlainObject, PlainLambda}
 use Rattle.s_linear.specs.Frame.{PlainPlaces}
 use Rattle.s_linear.specs.Lines.{Line}
 use Rattle.a_place.specs.Places.{places}
-use Rattle.cc_emit_def.specs.Image.{lines_of}
+use Rattle.cc_emit.specs.Image.{lines_of}
 use Rattle.cc_listing.specs.Lines.{placed_text, function_text}
 
 module _ (l : PlainLambda) (ls : List Line) (p : PlainPlaces) (os : List PlainObject) (is : ls ≡ lines_of l) (placed : p ≡ places ls) (are : os ≡ l.objects) where

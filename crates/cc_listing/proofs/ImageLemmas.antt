@@ -7,8 +7,8 @@ use Rattle.rv_layout.specs.Items.{items_size}
 use Rattle.rv_layout.specs.Layout.{addresses_of, functions_at}
 use Rattle.rv_layout.proofs.lemmas.Placed.{length-text}
 use Rattle.s_linear.specs.declared.frame.CodeForm.TheVariants.{Plain}
-use Rattle.cc_emit_def.specs.Image.{function_items, code_size, main_of, image_of, CanEmit}
-use Rattle.cc_emit_def.proofs.lemmas.FunctionFits.{text_sum}
+use Rattle.cc_emit.specs.Image.{function_items, code_size, main_of, image_of, CanEmit}
+use Rattle.cc_emit.proofs.lemmas.FunctionFits.{text_sum}
 use Rattle.cc_listing.specs.Lines.{functions_text, start_text, text_of}
 use Rattle.cc_listing.specs.Words.{words_in}
 use Rattle.cc_listing.proofs.Cut.{four_bytes}

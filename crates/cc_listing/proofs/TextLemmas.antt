@@ -14,7 +14,7 @@ use Rattle.rv_isa.specs.Words.{word_of}
 use Rattle.rv_isa.specs.declared.instruction.Instr.{Instr}
 use Rattle.rv_layout.specs.Sequences.{bytes_of}
 use Rattle.rv_layout.specs.Layout.{addresses_of, functions_at, text_of}
-use Rattle.cc_emit_def.specs.Image.{lines_of, function_items, code_size, main_of, image_of}
+use Rattle.cc_emit.specs.Image.{lines_of, function_items, code_size, main_of, image_of}
 use Rattle.cc_listing.specs.Words.{words_in}
 use Rattle.cc_listing.specs.Lines.{Listed, lines_from}
 use Rattle.cc_listing.specs.Laws.{words_listed, functions_lines, WordsAreTheText}

@@ -12,7 +12,7 @@ use Rattle.rv_layout.specs.Items.{items_size, label_at}
 use Rattle.rv_layout.specs.Layout.{Addresses, addresses_of, functions_at, items_code}
 use Rattle.rv_layout.specs.Sequences.{bytes_of}
 use Rattle.s_select.specs.Templates.{line_items}
-use Rattle.cc_emit_def.specs.Image.{lines_of, code_size, function_items, image_of, CanEmit}
+use Rattle.cc_emit.specs.Image.{lines_of, code_size, function_items, image_of, CanEmit}
 use Rattle.cc_listing.specs.Lines.{Listed, lines_from}
 use Rattle.cc_listing.specs.Words.{words_in}
 

@@ -12,8 +12,8 @@ use Rattle.a_place.specs.Places.{places}
 use Rattle.rv_layout.specs.Items.{items_size}
 use Rattle.rv_layout.specs.Layout.{put_at, get_at, functions_at}
 use Rattle.s_select.specs.Templates.{line_items}
-use Rattle.s_text.specs.Texts.{line_text}
-use Rattle.cc_emit_def.specs.Image.{lines_of, code_size, image_of}
+use Rattle.s_linear.specs.Texts.{line_text}
+use Rattle.cc_emit.specs.Image.{lines_of, code_size, image_of}
 use Rattle.cc_listing.specs.Words.{words_in, words_text}
 use Rattle.cc_listing.specs.Symbols.{commands_text, foot_text, stub_text, symbol_text}
 use Rattle.cc_listing.specs.Globals.{fixed_text, others_text}

@@ -3,7 +3,7 @@ use Rattle.std.specs.Prelude.{ℕ, ◌+◌, ◌/◌, ◌%◌, ◌==◌, Bool, if
 use Rattle.std.specs.Int.{from_le_bytes, w32}
 use Rattle.rv_isa.specs.Encodings.{decoded}
 use Rattle.rv_isa.specs.declared.instruction.Instr.{Instr}
-use Rattle.rv_text.specs.Texts.{hex_digit, text}
+use Rattle.rv_isa.specs.Texts.{hex_digit, text}
 
 -- the words of bytes, each of four, the lowest byte first
 abbrev pub words_in : List ℕ → List ℕ

@@ -6,20 +6,19 @@ ghost use Rattle.rv_layout.specs.Items.{items_size};
 ghost use Rattle.s_select.specs.Conditions.{CanSelect};
 ghost use Rattle.s_select.specs.Templates.{items_of};
 ghost use Rattle.s_linear.specs.declared.frame.CodeForm.TheVariants.{Plain};
-ghost use Rattle.cc_emit_def.specs.Image.{code_size};
-ghost use Rattle.cc_emit_def.specs.Laws.{IsFunction};
+ghost use Rattle.cc_emit.specs.Image.{code_size};
+ghost use Rattle.cc_emit.specs.Laws.{IsFunction};
 ghost use Rattle.cc_listing.specs.Lines.{function_text, global_text, head_text, place_text, placed_text, places_text};
 
 use crate::lines::push_lines;
 use crate::push::{push, push_bytes, push_number};
 use crate::symbols::{push_foot, push_symbol};
 use a_place::{frame, place};
-use c_lex::Name;
+use base::{Name, NoMemory};
 use g_graph::{Lambda, Object};
-use no_memory::NoMemory;
 use s_linear::{Frame, Linear, Places};
+use s_select::{Function, offsets_from};
 use s_sequence::sequence;
-use s_size::{Function, offsets_from};
 use std::alloc::Global;
 
 fn push_place(out: &mut Vec<u8>, name: usize, place: u32) -> Result<(), NoMemory>

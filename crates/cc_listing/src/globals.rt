@@ -7,10 +7,9 @@ ghost use Rattle.cc_listing.specs.Words.{words_in};
 use crate::lines::name_at;
 use crate::push::{push, push_bytes, push_number, push_word};
 use crate::words::{cut, words_in};
-use c_lex::Name;
+use base::{Name, NoMemory};
 use elf_file::Image;
 use g_graph::Delta;
-use no_memory::NoMemory;
 use std::alloc::Global;
 
 fn push_zeros(out: &mut Vec<u8>, count: usize) -> Result<(), NoMemory>

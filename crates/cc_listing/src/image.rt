@@ -6,8 +6,8 @@ ghost use Rattle.elf_file.specs.Image.{sections_of};
 ghost use Rattle.g_graph.specs.Plain.{PlainLambda};
 ghost use Rattle.rv_layout.specs.Layout.{functions_at};
 ghost use Rattle.s_linear.specs.declared.frame.CodeForm.TheVariants.{Plain};
-ghost use Rattle.cc_emit_def.specs.Image.{CanEmit, code_size, image_of, lambdas_of};
-ghost use Rattle.cc_emit_def.specs.Laws.{IsFunction};
+ghost use Rattle.cc_emit.specs.Image.{CanEmit, code_size, image_of, lambdas_of};
+ghost use Rattle.cc_emit.specs.Laws.{IsFunction};
 ghost use Rattle.cc_listing.specs.Lines.{IsListing, functions_text, start_text, text_of};
 ghost use Rattle.cc_listing.specs.Words.{words_in};
 
@@ -16,10 +16,9 @@ use crate::globals::push_globals;
 use crate::lines::name_at;
 use crate::symbols::{push_commands, push_stub};
 use crate::words::{cut, words_in};
-use c_lex::Name;
+use base::{Name, NoMemory};
 use elf_file::{Image, TEXT_AT};
 use g_graph::{Omega, Optimised};
-use no_memory::NoMemory;
 use std::alloc::Global;
 use std::sync::Arc;
 

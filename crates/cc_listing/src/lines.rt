@@ -13,11 +13,9 @@ ghost use Rattle.cc_listing.specs.Lines.{callee, instr_callee, lines_from, liste
 
 use crate::push::{push, push_number};
 use crate::words::push_words;
-use c_lex::Name;
-use no_memory::NoMemory;
-use s_linear::{Instr, Line};
-use s_size::{Function, line_size};
-use s_text::push_line;
+use base::{Name, NoMemory};
+use s_linear::{Instr, Line, push_line};
+use s_select::{Function, line_size};
 
 /// The name of the function of a number, and an empty one where there is none.
 pub(crate) fn name_at(names: &[Name], function: usize) -> &[u8]

@@ -2,11 +2,11 @@
 //! there.
 
 ghost use Rattle.std.specs.Prelude.{◌≡◌, ◌++◌, ◌<◌, OnOk, decimal};
-ghost use Rattle.rv_text.specs.Texts.{hex_digit};
+ghost use Rattle.rv_isa.specs.Texts.{hex_digit};
 ghost use Rattle.cc_listing.specs.Words.{word_digits};
 
+use base::NoMemory;
 use itoa::Buffer;
-use no_memory::NoMemory;
 
 pub(crate) fn push(out: &mut Vec<u8>, text: &str) -> Result<(), NoMemory>
     ensures { OnOk result (out.new.items ≡ out.old.items ++ text.now) }

@@ -5,7 +5,7 @@ ghost use Rattle.cc_listing.specs.Symbols.{commands_text, foot_text, stub_text, 
 
 use crate::push::{push, push_bytes, push_word};
 use crate::words::push_words;
-use no_memory::NoMemory;
+use base::NoMemory;
 
 /// The symbol of a function.
 pub(crate) fn push_symbol(out: &mut Vec<u8>, name: &[u8]) -> Result<(), NoMemory>

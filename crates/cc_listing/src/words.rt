@@ -5,9 +5,8 @@ ghost use Rattle.std.specs.Int.{from_le_bytes, w32};
 ghost use Rattle.cc_listing.specs.Words.{callee_text, code_text, word_line, words_in, words_text};
 
 use crate::push::{push, push_bytes, push_word};
-use no_memory::NoMemory;
-use rv_isa::{Instr, decode};
-use rv_text::push_instruction;
+use base::NoMemory;
+use rv_isa::{Instr, decode, push_instruction};
 use std::alloc::Global;
 
 fn word_at(bytes: &[u8], at: usize) -> u32

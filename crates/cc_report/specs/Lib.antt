@@ -1,3 +1,5 @@
+pub mod Excerpt
+pub mod Explained
 pub mod Refusal
 pub mod LogFault
 pub mod Outcome

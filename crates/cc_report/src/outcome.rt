@@ -5,8 +5,8 @@ ghost use Rattle.cc_report.specs.declared.outcome.Outcome.TheVariants.{NoMemory}
 
 use crate::log_fault::LogFault;
 use crate::refusal::Refusal;
+use base::NoMemory;
 use elf_file::ElfFault;
-use no_memory::NoMemory;
 use std::alloc::AllocError;
 
 /// How a command ended.

@@ -1,4 +1,3 @@
--- What crates above may cite.
 pub mod Cuts
 pub mod Firsts
 pub mod Scripts

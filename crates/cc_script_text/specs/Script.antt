@@ -1,10 +1,9 @@
 -- What a list of bytes says as the script of a session: commands in order, each ended by byte 10, and then `end`, or what
 -- is no command.
-use Rattle.std.specs.Prelude.{ℕ, zero, suc, ◌+◌, ◌-◌, ◌*◌, ◌==◌, ◌&&◌, Bool, false, List, [], ◌∷◌, length, take, drop, fold, nat_le, codes}
-use Rattle.std.specs.Prelude.{Option, None, Some, option_map, if◌then◌else◌}
+use Rattle.std.specs.Prelude.{ℕ, zero, suc, ◌+◌, ◌-◌, ◌*◌, ◌==◌, ◌&&◌, Bool, false, List, [], ◌∷◌, length, take, drop, fold, nat_le, codes, Option, None, Some, option_map, if◌then◌else◌}
 use Rattle.std.specs.List.{list_all}
 use Rattle.std.specs.Str.{bytes_eq}
-use Rattle.limits.specs.Limits.{most_name_bytes, most_source_bytes}
+use Rattle.base.specs.Limits.{most_name_bytes, most_source_bytes}
 use Rattle.c_lex.specs.Classes.{is_letter, is_digit, is_name_byte}
 use Rattle.cc_script_text.specs.declared.command.Command.{Command}
 use Rattle.cc_script_text.specs.declared.command.Command.TheVariants.{Build, Replace, End}

@@ -1,7 +1,7 @@
 -- How a command is written.
 use Rattle.std.specs.Prelude.{◌≡◌, ℕ, ◌≤◌, true, List, [], ◌∷◌, ◌++◌, length, codes}
 use Rattle.std.specs.List.{list_all}
-use Rattle.limits.specs.Limits.{most_name_bytes, most_source_bytes}
+use Rattle.base.specs.Limits.{most_name_bytes, most_source_bytes}
 use Rattle.c_lex.specs.Classes.{is_digit}
 use Rattle.c_lex.specs.Grammar.{IsIdentifier}
 use Rattle.cc_script_text.specs.Script.{decimal_value, most_length_digits}

@@ -1,6 +1,6 @@
 //! The commands of a script.
 
-use c_lex::{Bytes, Name};
+use base::{Bytes, Name};
 
 /// A command of a session.
 #[derive(Debug, Drop)]

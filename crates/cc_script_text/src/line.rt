@@ -6,7 +6,7 @@ ghost use Rattle.c_lex.specs.Classes as class;
 ghost use Rattle.cc_script_text.specs.Script as spec;
 
 use crate::pieces::cut;
-use limits::{MOST_NAME_BYTES, MOST_SOURCE_BYTES};
+use base::{MOST_NAME_BYTES, MOST_SOURCE_BYTES};
 
 /// The most digits of a length.
 const MOST_LENGTH_DIGITS: usize = 7;

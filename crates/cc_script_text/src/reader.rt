@@ -7,7 +7,7 @@ use crate::command::Command;
 use crate::fault::ScriptFault;
 use crate::line::replace_of;
 use arrayvec::ArrayVec;
-use c_lex::{Bytes, Name};
+use base::{Bytes, Name};
 use cc_io::{CHUNK, Failed, Source};
 use std::alloc::{AllocError, Global};
 

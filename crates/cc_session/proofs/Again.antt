@@ -10,8 +10,8 @@ use Rattle.g_graph.specs.Plain.{PlainLambda}
 use Rattle.s_linear.specs.declared.frame.CodeForm.{CodeForm}
 use Rattle.g_pass_order.specs.Calls.{IsOrder, no_lambda}
 use Rattle.g_pass_order.specs.Laws.{IsRankedOrder, OrdersAreRanked}
-use Rattle.g_pass_stale.specs.Stale.{AreStale, IsUnstale}
-use Rattle.cc_edit.specs.Accepted.{PlainAccepted}
+use Rattle.g_pass_work.specs.Stale.{AreStale, IsUnstale}
+use Rattle.cc_session.specs.Accepted.{PlainAccepted}
 use Rattle.cc_session.specs.Session.{IsImageKept, IsLast, IsLastForm, IsKept, IsSession, PlainKept, PlainSession}
 use Rattle.cc_session.specs.Rebuilds.{AreStaleSince, HasDeps, IsRebuilt, last_source}
 

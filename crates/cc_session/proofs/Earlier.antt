@@ -5,9 +5,9 @@ use Rattle.g_graph.specs.declared.steps.Rule.{Rule}
 use Rattle.g_graph.specs.Plain.{PlainLambda}
 use Rattle.g_pass_order.specs.Calls.{IsOrder}
 use Rattle.g_pass_def.specs.Answers.{AreAnswers}
-use Rattle.g_pass_renew.specs.g_pass.Sweep.{rules}
-use Rattle.g_pass_stale.specs.Stale.{AreStale}
-use Rattle.g_pass_renew.specs.Kept.{AreKept}
+use Rattle.g_pass.specs.Sweep.{rules}
+use Rattle.g_pass_work.specs.Stale.{AreStale}
+use Rattle.g_pass_work.specs.Kept.{AreKept}
 use Rattle.cc_session.specs.Session.{PlainKept, lambdas_of, deps_of, answers_of, IsLast}
 
 -- where there is no lambda there is no answer

@@ -9,12 +9,12 @@ use Rattle.s_linear.specs.declared.frame.CodeForm.{CodeForm}
 use Rattle.g_pass_order.specs.Calls.{IsOrder}
 use Rattle.g_pass_order.specs.Laws.{OrdersAreUnique}
 use Rattle.g_pass_def.specs.Answers.{AreAnswers}
-use Rattle.g_pass_renew.specs.g_pass.Sweep.{rules}
+use Rattle.g_pass.specs.Sweep.{rules}
 use Rattle.c_typed.specs.Typed.{ProgramTree}
-use Rattle.cc_edit.specs.cc_source.Accepted.{Accepts}
-use Rattle.cc_emit_def.specs.Image.{file_of_program, lambdas_of, CanEmit}
+use Rattle.cc_source.specs.Accepted.{Accepts}
+use Rattle.cc_emit.specs.Image.{file_of_program, lambdas_of, CanEmit}
 use Rattle.cc_compile.specs.Compiled.{IsImageUnder}
-use Rattle.cc_edit.specs.Accepted.{PlainAccepted}
+use Rattle.cc_session.specs.Accepted.{PlainAccepted}
 use Rattle.cc_session.specs.Session as session
 use Rattle.cc_session.specs.Session.{PlainKept, IsKept, IsLast, IsSession}
 use Rattle.cc_session.specs.Rebuilds.{AreRemade, AreStaleSince, HadDeps, IsRebuiltFrom, last_source}

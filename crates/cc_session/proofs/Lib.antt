@@ -1,3 +1,4 @@
+mod Back
 mod Again
 mod Earlier
 mod FromParts

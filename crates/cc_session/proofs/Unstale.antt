@@ -5,12 +5,12 @@ use Rattle.std.specs.Prelude.{Option, None, Some, slice_get, slice_index_or}
 use Rattle.g_graph.specs.declared.steps.Rule.{Rule}
 use Rattle.g_graph.specs.Plain.{PlainLambda, PlainOptimised}
 use Rattle.g_pass_order.specs.Laws.{OrdersAreUnique}
-use Rattle.g_pass_renew.specs.g_pass.Sweep.{rules}
-use Rattle.g_pass_stale.specs.Laws.{UnstaleAnswersAreKept}
-use Rattle.g_pass_stale.specs.Stale.{IsUnstale}
+use Rattle.g_pass.specs.Sweep.{rules}
+use Rattle.g_pass_work.specs.Laws.{UnstaleAnswersAreKept}
+use Rattle.g_pass_work.specs.Stale.{IsUnstale}
 use Rattle.s_linear.specs.declared.frame.CodeForm.{CodeForm}
 use Rattle.rv_layout.specs.declared.item.Item.{Item}
-use Rattle.cc_emit_def.specs.Image.{function_items, lambdas_of}
+use Rattle.cc_emit.specs.Image.{function_items, lambdas_of}
 use Rattle.cc_session.specs.Items.{items_of, kept_items, AreItemsKept}
 use Rattle.cc_session.specs.Session.{PlainKept, answers_of, IsLast, IsLastForm}
 use Rattle.cc_session.specs.Rebuilds.{AreRemade}

@@ -3,7 +3,7 @@ use Rattle.std.specs.Prelude.{◌≡◌, ℕ, Bool, true, false, Option, None, S
 use Rattle.g_graph.specs.Plain.{PlainOptimised}
 use Rattle.s_linear.specs.declared.frame.CodeForm.{CodeForm}
 use Rattle.rv_layout.specs.declared.item.Item.{Item}
-use Rattle.cc_emit_def.specs.Image.{function_items, lambdas_of}
+use Rattle.cc_emit.specs.Image.{function_items, lambdas_of}
 use Rattle.cc_session.specs.Session.{PlainKept}
 
 -- the items of the function of each answer

@@ -6,12 +6,12 @@ use Rattle.g_build_def.specs.Functions.{graph}
 use Rattle.s_linear.specs.declared.frame.CodeForm.{CodeForm}
 use Rattle.g_pass_order.specs.Calls.{IsOrder}
 use Rattle.g_pass_def.specs.Answers.{AreAnswers}
-use Rattle.g_pass_renew.specs.g_pass.Sweep.{rules}
-use Rattle.g_pass_stale.specs.Stale.{AreStale}
+use Rattle.g_pass.specs.Sweep.{rules}
+use Rattle.g_pass_work.specs.Stale.{AreStale}
 use Rattle.c_typed.specs.Typed.{ProgramTree}
-use Rattle.cc_edit.specs.cc_source.Accepted.{Accepts}
+use Rattle.cc_source.specs.Accepted.{Accepts}
 use Rattle.cc_compile.specs.Compiled.{IsImageUnder}
-use Rattle.cc_edit.specs.Accepted.{PlainAccepted}
+use Rattle.cc_session.specs.Accepted.{PlainAccepted}
 use Rattle.cc_session.specs.Session.{PlainKept, PlainSession, lambdas_of, deps_of, IsKept}
 
 -- the lambdas of a source with their deps; where there is no source there are none

@@ -9,13 +9,13 @@ use Rattle.g_build_def.specs.Functions.{graph}
 use Rattle.s_linear.specs.declared.frame.CodeForm.{CodeForm}
 use Rattle.s_linear.specs.contracts.frame.CodeForm as code_form
 use Rattle.g_pass_def.specs.Answers.{AreAnswers}
-use Rattle.g_pass_renew.specs.g_pass.Sweep.{rules}
+use Rattle.g_pass.specs.Sweep.{rules}
 use Rattle.c_typed.specs.Typed.{ProgramTree}
-use Rattle.cc_edit.specs.cc_source.Accepted.{Accepts}
+use Rattle.cc_source.specs.Accepted.{Accepts}
 use Rattle.cc_compile.specs.Compiled.{IsImageUnder}
-use Rattle.cc_edit.specs.declared.fault.EditFault.{EditFault}
-use Rattle.cc_edit.specs.Accepted.{PlainAccepted}
-use Rattle.cc_edit.specs.Edits.{IsEdited, IsEditRefused}
+use Rattle.cc_session.specs.declared.fault.EditFault.{EditFault}
+use Rattle.cc_session.specs.Accepted.{PlainAccepted}
+use Rattle.cc_session.specs.Edits.{IsEdited, IsEditRefused}
 
 -- the source, the rules of the recipe, the form, and the source of the last rebuild
 pub record PlainSession : Type 0 where

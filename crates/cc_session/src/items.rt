@@ -4,13 +4,13 @@ ghost use Rattle.std.specs.Prelude.{◌≡◌, ℕ, true, false, Some, map, slic
 ghost use Rattle.std.specs.Arc.{arc_value};
 ghost use Rattle.g_graph.specs.Plain.{PlainLambda};
 ghost use Rattle.rv_layout.specs.Layout.{item_lists};
-ghost use Rattle.cc_emit_def.specs.Image.{function_items, lambdas_of};
-ghost use Rattle.cc_emit_def.specs.Laws.{IsFunction};
+ghost use Rattle.cc_emit.specs.Image.{function_items, lambdas_of};
+ghost use Rattle.cc_emit.specs.Laws.{IsFunction};
 ghost use Rattle.cc_session.specs.Items.{items_of, AreItemsKept};
 
-use cc_compile::cc_emit::function_items;
+use base::NoMemory;
+use cc_emit::function_items;
 use g_graph::{Lambda, Optimised};
-use no_memory::NoMemory;
 use rv_layout::Item;
 use s_linear::CodeForm;
 use std::alloc::Global;

@@ -1,19 +1,19 @@
 //! Sessions.
 
 ghost use Rattle.std.specs.Prelude.{◌≡◌, ◌<◌, ◌≤◌, None, Some, IfErr, IfOk, OnErr, OnOk};
-ghost use Rattle.limits.specs.Limits.{most_workers};
-ghost use Rattle.cc_edit.specs.cc_source.Accepted.{Refuses};
+ghost use Rattle.base.specs.Limits.{most_workers};
+ghost use Rattle.cc_source.specs.Accepted.{Refuses};
 ghost use Rattle.cc_session.specs.Session.{IsAcceptedSource, Replaces, IsReplaceRefused};
 ghost use Rattle.cc_session.specs.Rebuilds.{IsRebuilt};
 
 use crate::kept::{Kept, image_of};
 use crate::rebuild::{Rebuilt, rebuild_again, rebuild_from};
+use crate::{AcceptedSource, EditFault};
+use base::NoMemory;
 use board_work::Gate;
-use cc_edit::cc_source::CompileFault;
-use cc_edit::{AcceptedSource, EditFault};
+use cc_source::CompileFault;
+use g_pass::Recipe;
 use g_pass_order::laws::orders_are_unique;
-use g_pass_renew::g_pass::Recipe;
-use no_memory::NoMemory;
 use s_linear::CodeForm;
 use std::alloc::Global;
 use std::marker::Model;

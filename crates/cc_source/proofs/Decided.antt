@@ -8,8 +8,8 @@ use Rattle.c_ast.specs.Nesting.{depth}
 use Rattle.c_ast.specs.Shape.{FollowsGrammar, Shaped}
 use Rattle.c_ast.specs.Spelling.{kinds, tokens_of}
 use Rattle.c_ast.specs.Tree.{Tree}
-use Rattle.c_parse_laws.specs.Beginnings.{WrongFrom}
-use Rattle.c_parse_laws.proofs.lemmas.GrammarLaws.{one_tree_at_spans, tree_or_wrong}
+use Rattle.c_ast.specs.Beginnings.{WrongFrom}
+use Rattle.c_ast.proofs.lemmas.GrammarLaws.{one_tree_at_spans, tree_or_wrong}
 use Rattle.c_parse_tokens.specs.LeftOut.{first_left_out}
 use Rattle.c_parse_tokens.specs.Reading.{offset_of}
 use Rattle.c_parse.specs.declared.fault.ParseFault.TheVariants as parse

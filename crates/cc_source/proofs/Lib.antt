@@ -1,5 +1,17 @@
+pub mod lemmas
+mod RefusalLaws
+mod Lines
 mod Short
 mod Determined
 mod Decided
--- What is passed on of the libraries below.
-pub use Rattle.cc_source_laws.proofs.of_c_check_laws
+mod Programs
+mod Kept
+mod Calls
+mod Constants
+mod Characters
+mod Tokens
+mod Checked
+mod GroupShapes
+mod FewGroups
+mod FewFunctions
+mod CheckedFew

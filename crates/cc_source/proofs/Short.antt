@@ -2,7 +2,7 @@
 use Rattle.std.proofs.Common.{◌≡◌, ◌^◌, ◌<◌, Bool, true, false, ℕ, List, length, refl, arith}
 use Rattle.std.specs.Prelude.{nat_lt, Ok, Err, if◌then◌else◌}
 use Rattle.std.proofs.lemmas.Bool.Decides.{nat_tests}
-use Rattle.limits.specs.Limits.{most_source_bytes}
+use Rattle.base.specs.Limits.{most_source_bytes}
 use Rattle.c_lex.specs.Tokens.{lexed, tokens_from}
 use Rattle.c_lex.specs.Trivia.{include_len}
 use Rattle.c_lex.specs.declared.fault.LexFault.TheVariants.{LongSource}

@@ -32,7 +32,7 @@ pub fn typed_of(alloc: Global, source: &[u8]) -> Result<Typed, CompileFault>
     ensures limits { IfOk result (λ p. above_limits p ≡ None) }
     ensures refused { IfErr result (λ e. Refuses e source.now) }
 {
-    cc_source_laws::laws::checked_are_well_typed();
+    crate::accepted_laws::checked_are_well_typed();
     let unit = tree_of(alloc, source)?;
     let checked = check(alloc, &unit, source.len() as u32);
     drop(unit);

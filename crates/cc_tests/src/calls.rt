@@ -8,7 +8,7 @@
 
 use crate::outside::outside;
 use crate::row::{Row, bytes_of, split};
-use no_memory::NoMemory;
+use base::NoMemory;
 
 fn put_file(row: &mut Row, words: &str) -> Result<(), NoMemory> {
     let (name, text) = split(words);

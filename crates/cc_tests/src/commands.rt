@@ -8,9 +8,9 @@
 //! most. `passes WORDS` says the status, and how often the gate was passed.
 
 use crate::row::{Named, Row, listed, say_bytes, split};
+use base::NoMemory;
 use board_work::{CountGate, Gate, MeetGate};
 use cc_io::{MemFiles, MemSink, MemSource};
-use no_memory::NoMemory;
 use std::alloc::Global;
 
 /// A gate where two workers may meet, and that counts its passes.

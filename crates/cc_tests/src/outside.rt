@@ -12,12 +12,12 @@
 ghost use Rattle.std.specs.Prelude.{◌≡◌, IsSome};
 
 use crate::row::{Row, bytes_of, listed, say_bytes, split};
+use base::NoMemory;
 use cc_gen::generate;
 use cc_io::{
     DirFiles, Failed, Files, MemFiles, MemSink, MemSource, NoFailSource, Sink, Source, StdSink,
     StdSource, save,
 };
-use no_memory::NoMemory;
 use std::alloc::Global;
 use std::io::{ErrorKind, Read, Write};
 use std::{env, fs, io, process};

@@ -1,6 +1,6 @@
 //! A row: what its commands are given, what was said of them, and what is wanted.
 
-use no_memory::NoMemory;
+use base::NoMemory;
 use std::alloc::Global;
 
 /// A file that commands are given.

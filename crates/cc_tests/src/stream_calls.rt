@@ -1,10 +1,10 @@
 //! Calls of the top call over files and streams that move one byte a call.
 use crate::row::Named;
 use crate::stream_bytes::{ByteFiles, ByteSink, ByteSource, Calls, Way};
+use base::NoMemory;
 use board_work::OpenGate;
 use cc_top::top;
 use cc_watch::{Counter, LogKeeper, Watcher};
-use no_memory::NoMemory;
 use std::alloc::Global;
 use std::sync::Wait;
 use std::thread::Threads;

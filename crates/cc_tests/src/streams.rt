@@ -7,7 +7,7 @@ use crate::commands::arguments_of;
 use crate::row::{Row, say_bytes, split};
 use crate::stream_bytes::Way;
 use crate::stream_calls::{Object, Odd, called};
-use no_memory::NoMemory;
+use base::NoMemory;
 use std::alloc::Global;
 use std::sync::Wait;
 use std::thread::Threads;

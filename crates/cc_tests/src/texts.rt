@@ -3,10 +3,9 @@
 //! `texts TEXT` says each one's name and its text behind TEXT, or `memory`.
 
 use crate::row::{Row, bytes_of, say_bytes, split};
-use c_lex::Name;
+use base::{Name, NoMemory};
 use cc_watch::Watcher;
 use g_graph::{Rule, Step, StepList};
-use no_memory::NoMemory;
 use std::alloc::Global;
 
 fn rule_named(name: &str) -> Rule {

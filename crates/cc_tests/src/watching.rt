@@ -2,8 +2,8 @@
 ghost use Rattle.std.specs.Prelude.{◌≡◌};
 
 use crate::row::split;
+use base::NoMemory;
 use cc_watch::{LogKeeper, Row, Watcher};
-use no_memory::NoMemory;
 use std::alloc::Global;
 
 /// A keeper of the log with a name of its own, which takes so many rows and refuses the next one.

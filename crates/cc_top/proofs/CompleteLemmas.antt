@@ -4,27 +4,27 @@ use Rattle.std.specs.Option.{ForSome}
 use Rattle.s_linear.specs.declared.frame.CodeForm.{CodeForm}
 use Rattle.c_typed.specs.Typed.{ProgramTree}
 use Rattle.cc_command.specs.Command.{Command, accept, build, run, generate, check, session, interpret}
-use Rattle.cc_interpret.specs.cc_source.Accepted.{Accepts}
+use Rattle.cc_source.specs.Accepted.{Accepts}
 use Rattle.cc_io.specs.Faults.{Increased}
 use Rattle.cc_io.specs.Files.{Name, content}
 use Rattle.cc_watch.specs.Rows.{PlainRow}
 use Rattle.elf_file.specs.Loading.{Executable, loaded}
 use Rattle.elf_file.specs.declared.fault.ElfFault.{ElfFault}
-use Rattle.cc_build.specs.AcceptEnds.{AcceptCause}
-use Rattle.cc_build.specs.BuildEnds.{BuildEnds}
-use Rattle.cc_outside.specs.Outside.{IfKnown, ReadFails, WriteFails, FilesSeen, Outside, StreamSeen}
-use Rattle.cc_certify.specs.log_judge.Judgement.{Certifies}
-use Rattle.cc_compile_laws.specs.Laws.{LogsCertifyImages}
-use Rattle.cc_certify.specs.CheckEnds.{CertifiedIsTold, CheckEnds}
-use Rattle.cc_interpret.specs.InterpretEnds.{InterpretCause}
-use Rattle.cc_script.specs.SessionEnds.{SessionEnds}
+use Rattle.cc_top.specs.AcceptEnds.{AcceptCause}
+use Rattle.cc_top.specs.BuildEnds.{BuildEnds}
+use Rattle.cc_io.specs.Outside.{IfKnown, ReadFails, WriteFails, FilesSeen, Outside, StreamSeen}
+use Rattle.log_check.specs.Judgement.{Certifies}
+use Rattle.cc_top.specs.CompileLaws.{LogsCertifyImages}
+use Rattle.cc_top.specs.CheckEnds.{CertifiedIsTold, CheckEnds}
+use Rattle.cc_top.specs.InterpretEnds.{InterpretCause}
+use Rattle.cc_top.specs.SessionEnds.{SessionEnds}
 use Rattle.cc_top.specs.Completes.{CheckCompletes, Completes, IsDone, Works}
 use Rattle.cc_top.specs.Ends.{Ends}
-use Rattle.cc_run.specs.GenerateEnds.{GenerateEnds}
+use Rattle.cc_top.specs.GenerateEnds.{GenerateEnds}
 use Rattle.cc_report.specs.Outcome.{status_of}
-use Rattle.cc_interpret.specs.cc_refusal.Refused.{AcceptedIsNotRefused}
+use Rattle.cc_source.specs.Refused.{AcceptedIsNotRefused}
 use Rattle.cc_report.specs.Report.{IsReported}
-use Rattle.cc_run.specs.RunEnds.{RunEnds}
+use Rattle.cc_top.specs.RunEnds.{RunEnds}
 use Rattle.cc_report.specs.declared.outcome.Outcome.{Outcome}
 use Rattle.cc_report.specs.declared.outcome.Outcome.TheVariants.{Done, ReadFault, WriteFault, Refused, BadImage, NoMemory, Exit, Stack, Budget, Stuck, Script, Undefined, Cut}
 

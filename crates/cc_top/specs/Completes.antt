@@ -1,7 +1,7 @@
 -- A command that has what it asks for, and none of whose calls failed, is done, or memory ran out.
 use Rattle.std.specs.Prelude.{◌≡◌, ◌≤◌, ◌⊎◌, ℕ, true, List, length, Option, Some, None, Ok}
 use Rattle.std.specs.Option.{ForSome}
-use Rattle.limits.specs.Limits.{most_sweeps}
+use Rattle.base.specs.Limits.{most_sweeps}
 use Rattle.g_graph.specs.declared.steps.Rule.{Rule}
 use Rattle.s_linear.specs.declared.frame.CodeForm.{CodeForm}
 use Rattle.c_typed.specs.Typed.{ProgramTree}
@@ -9,15 +9,15 @@ use Rattle.elf_file.specs.Loading.{Executable, loaded}
 use Rattle.cc_command.specs.Command.{Command, accept, build, run, generate, check, session, interpret}
 use Rattle.cc_watch.specs.Rows.{PlainRow}
 use Rattle.cc_watch.specs.Texts.{log_text}
-use Rattle.cc_source_laws.specs.SourceLaws.{AreBytes}
-use Rattle.cc_interpret.specs.cc_source.Accepted.{Accepts}
-use Rattle.cc_build.specs.cc_compile.Compiled.{IsCompiledUnder}
-use Rattle.cc_build.specs.cc_compile.RecipeText.{IsTextOf}
+use Rattle.cc_source.specs.SourceLaws.{AreBytes}
+use Rattle.cc_source.specs.Accepted.{Accepts}
+use Rattle.cc_compile.specs.Compiled.{IsCompiledUnder}
+use Rattle.cc_compile.specs.RecipeText.{IsTextOf}
 use Rattle.cc_io.specs.Faults.{Increased}
 use Rattle.cc_io.specs.Files.{Name, content}
-use Rattle.cc_outside.specs.Outside.{IfKnown, ReadFails, WriteFails, FilesSeen, Outside, StreamSeen}
-use Rattle.cc_certify.specs.log_judge.Judgement.{Certifies}
-use Rattle.cc_build.specs.Watchers.{has_reporter}
+use Rattle.cc_io.specs.Outside.{IfKnown, ReadFails, WriteFails, FilesSeen, Outside, StreamSeen}
+use Rattle.log_check.specs.Judgement.{Certifies}
+use Rattle.cc_top.specs.Watchers.{has_reporter}
 
 -- The status is 0, or that of memory that ran out.
 abbrev pub IsDone : (status : ℕ) → Type 0

@@ -2,15 +2,15 @@
 use Rattle.std.specs.Prelude.{◌≡◌, ◌⊎◌, ℕ, List, Option, Some, None}
 use Rattle.cc_command.specs.Command.{Command, accept, build, run, generate, check, session, interpret}
 use Rattle.cc_watch.specs.Rows.{PlainRow}
-use Rattle.cc_build.specs.AcceptEnds.{AcceptEnds}
-use Rattle.cc_build.specs.BuildEnds.{BuildEndsUnder}
-use Rattle.cc_certify.specs.CheckEnds.{CheckEnds}
-use Rattle.cc_interpret.specs.InterpretEnds.{InterpretEnds}
-use Rattle.cc_script.specs.SessionEnds.{SessionEndsUnder}
-use Rattle.cc_run.specs.RunEnds.{RunEnds}
-use Rattle.cc_run.specs.GenerateEnds.{GenerateEnds}
+use Rattle.cc_top.specs.AcceptEnds.{AcceptEnds}
+use Rattle.cc_top.specs.BuildEnds.{BuildEndsUnder}
+use Rattle.cc_top.specs.CheckEnds.{CheckEnds}
+use Rattle.cc_top.specs.InterpretEnds.{InterpretEnds}
+use Rattle.cc_top.specs.SessionEnds.{SessionEndsUnder}
+use Rattle.cc_top.specs.RunEnds.{RunEnds}
+use Rattle.cc_top.specs.GenerateEnds.{GenerateEnds}
 use Rattle.cc_report.specs.Outcome.{text_of as line_of}
-use Rattle.cc_outside.specs.Outside.{Outside, KeepsStreams}
+use Rattle.cc_io.specs.Outside.{Outside, KeepsStreams}
 use Rattle.cc_report.specs.declared.outcome.Outcome.{Outcome}
 use Rattle.cc_report.specs.declared.outcome.Outcome.TheVariants.{Usage, NoMemory}
 

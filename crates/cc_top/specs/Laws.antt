@@ -1,15 +1,15 @@
 -- The law of what a build reports.
 use Rattle.std.specs.Prelude.{◌≡◌, ◌≤◌, ℕ, List, [], Some, length}
-use Rattle.limits.specs.Limits.{most_sweeps}
+use Rattle.base.specs.Limits.{most_sweeps}
 use Rattle.g_graph.specs.declared.steps.Rule.{Rule}
 use Rattle.s_linear.specs.declared.frame.CodeForm.{CodeForm}
 use Rattle.cc_watch.specs.Rows.{PlainRow}
 use Rattle.cc_io.specs.Files.{Name}
-use Rattle.cc_source_laws.specs.SourceLaws.{AreBytes}
-use Rattle.cc_outside.specs.Outside.{FilesSeen}
-use Rattle.cc_build.specs.BuildEnds.{HasBuilt, rows_built}
-use Rattle.cc_build.specs.Watchers.{watcher_named, IsReportOf}
-use Rattle.cc_certify.specs.log_judge.Judgement.{Certifies}
+use Rattle.cc_source.specs.SourceLaws.{AreBytes}
+use Rattle.cc_io.specs.Outside.{FilesSeen}
+use Rattle.cc_top.specs.BuildEnds.{HasBuilt, rows_built}
+use Rattle.cc_top.specs.Watchers.{watcher_named, IsReportOf}
+use Rattle.log_check.specs.Judgement.{Certifies}
 
 -- A build of a source of bytes was done. What a watcher that stood for no row reports of it certifies OUT of the source.
 abbrev pub ReportsCertify : {W : Type 0} (named : W → List ℕ) (stands_for : W → List PlainRow → Type 0) (text_of : W → List PlainRow → List ℕ) → Type 0

@@ -9,5 +9,5 @@ pub fn reports_certify()
     ensures { let keeper = ⟦<LogKeeper as Watcher>⟧ in
         ReportsCertify keeper.named keeper.stands_for keeper.text_of }
 {
-    cc_compile_laws::laws::logs_certify_images();
+    crate::compile_laws::logs_certify_images();
 }

@@ -1,13 +1,34 @@
-//! The top call: it carries out a command, and tells how it ended. The command is what the
-//! arguments of a command line ask for; it works over the files and streams that it is handed. Each
-//! status comes at its cause. On status 0 of `build` the source is accepted, OUT is exactly its
-//! image under the recipe, and on the machine OUT does what the source does; on status 0 of `check`
-//! the source is accepted and IMG does what it does, whoever wrote log and image; on status 0 or 7
-//! of `interp` the output has gained what the source's own run writes.
+//! The top call: it carries out a command, and tells how it ended.
+//! The command is what the arguments of a command line ask for; it works over the files and
+//! streams that it is handed. Each status comes at its cause. On status 0 of `build` the source
+//! is accepted, OUT is exactly its image under the recipe, and on the machine OUT does what the
+//! source does; on status 0 of `check` the source is accepted and IMG does what it does, whoever
+//! wrote log and image; on status 0 or 7 of `interp` the output has gained what the source's own
+//! run writes.
 //! Always: a refused build creates no file.
 #![tactic(auto)]
 
+pub mod accept;
+mod answer;
+pub mod build;
+pub mod build_laws;
+mod carry;
+pub mod certify_laws;
+mod certifying;
+mod compile;
+pub mod compile_laws;
+pub mod generated;
+pub mod interpret_laws;
+mod interpreting;
 pub mod laws;
+mod next;
+mod open;
+mod play;
+pub mod run;
+mod say;
+pub mod session;
+pub mod session_laws;
+mod watchers;
 
 ghost use Rattle.std.specs.Prelude.{ℕ, List, map};
 ghost use Rattle.std.specs.String.{string_bytes};
@@ -15,19 +36,17 @@ ghost use Rattle.cc_command.specs.Command.{command_of};
 ghost use Rattle.cc_io.specs.Faults.{Increased};
 ghost use Rattle.cc_top.specs.Completes.{Completes};
 ghost use Rattle.cc_top.specs.Ends.{Ends};
-ghost use Rattle.cc_outside.specs.Outside.{outside_of};
+ghost use Rattle.cc_io.specs.Outside.{outside_of};
 ghost use Rattle.cc_report.specs.Report.{IsReported, outcome_of, said_by};
 
+pub use answer::Answer;
 use board_work::Gate;
-use cc_build::{accept, build};
-use cc_certify::check;
 use cc_command::{Command, parse_command};
-use cc_interpret::interpret;
 use cc_io::{Files, Sink, Source};
 use cc_report::{Ending, Outcome, tell};
-use cc_run::{generated, run};
-use cc_script::session::session;
 use cc_watch::Watcher;
+pub use certifying::check;
+pub use interpreting::interpret;
 use std::alloc::Global;
 use std::sync::Wait;
 use std::thread::Threads;
@@ -122,9 +141,9 @@ pub fn top<H: Threads + Wait + Sync, F: Files, I: Source, O: Sink, E: Sink, G: G
         (seen files.old input.old output.old) (seen files.new input.new output.new)
         watchers.old.items }
 {
-    cc_interpret::cc_refusal::laws::accepted_sources_are_not_refused();
-    cc_certify::laws::certified_is_told();
-    cc_compile_laws::laws::logs_certify_images();
+    cc_source::refusal_laws::accepted_sources_are_not_refused();
+    crate::certify_laws::certified_is_told();
+    crate::compile_laws::logs_certify_images();
     let ending = carry_out(rt, alloc, words, files, input, output, gate, watchers);
     tell(report, &ending)
 }
@@ -184,7 +203,7 @@ fn carry_out<H: Threads + Wait + Sync, F: Files, I: Source, O: Sink, G: Gate>(
             recipe,
             workers,
             form,
-        } => Ending::Line(session(
+        } => Ending::Line(session::session(
             rt, alloc, files, input, output, source, image, recipe, form, workers, gate,
         )),
         Command::Interpret { source, bound } => {

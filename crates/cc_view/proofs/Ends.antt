@@ -3,18 +3,18 @@ use Rattle.std.proofs.Common.{◌≡◌, ◌+◌, ◌⊎◌, ℕ, List, [], take
 use Rattle.std.specs.Option.{ForSome}
 use Rattle.std.proofs.lemmas.List.{length-take, take_all}
 use Rattle.std.proofs.lemmas.Option.{same_Some}
-use Rattle.limits.specs.Limits.{most_source_bytes}
+use Rattle.base.specs.Limits.{most_source_bytes}
 use Rattle.g_graph.specs.declared.steps.Rule.{Rule}
 use Rattle.cc_io.specs.Files.{Name, FileSet, content}
 use Rattle.cc_io.specs.Sink.{append}
 use Rattle.cc_io.proofs.lemmas.Sink.{append-none}
-use Rattle.cc_outside.specs.Outside.{FilesSeen, StreamSeen, ReadFails}
+use Rattle.cc_io.specs.Outside.{FilesSeen, StreamSeen, ReadFails}
 use Rattle.cc_report.specs.Outcome.{text_of}
 use Rattle.cc_report.specs.declared.outcome.Outcome.{Outcome}
 use Rattle.cc_report.specs.declared.outcome.Outcome.TheVariants.{Done, Usage, ReadFault, WriteFault, Refused, BadImage, NoMemory, Exit, Stack, Budget, Stuck, Undefined, Cut, Certified, NotCertified, Script}
-use Rattle.cc_view_steps.specs.g_pass.Recipe.{OneRecipe}
-use Rattle.cc_view_steps.specs.cc_compile.RecipeText.{IsTextOf}
-use Rattle.cc_view_command.specs.Command.{Command, graph, steps, listing, explain}
+use Rattle.g_pass.specs.Recipe.{OneRecipe}
+use Rattle.cc_compile.specs.RecipeText.{IsTextOf}
+use Rattle.cc_view_source.specs.Command.{Command, graph, steps, listing, explain}
 use Rattle.cc_view.specs.ViewEnds.{list_of, said_of, source_of, CommandShows, IsWritten, ShownCause, ViewEnds, ViewEndsUnder, WasShown}
 
 -- where memory ran out nothing is shown, whatever the command

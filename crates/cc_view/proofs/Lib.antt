@@ -1,2 +1,11 @@
+mod Lists
+mod Called
+mod Turning
+mod Filling
+mod Bounds
+mod Suffices
 mod Ends
 mod Shows
+mod FrameLemmas
+mod RefusalPlace
+mod StackLines

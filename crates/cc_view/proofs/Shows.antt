@@ -3,12 +3,12 @@ use Rattle.std.proofs.Common.{◌≡◌, ℕ, List, [], Option, sym, subst}
 use Rattle.g_graph.specs.declared.steps.Rule.{Rule}
 use Rattle.g_graph.specs.Plain.{PlainOmega, PlainOptimised}
 use Rattle.g_pass_def.specs.Answers.{AreAnswers}
-use Rattle.cc_view_steps.specs.g_pass.Sweep.{rules}
-use Rattle.cc_refusal.specs.Refused.{IsRejectionOf}
+use Rattle.g_pass.specs.Sweep.{rules}
+use Rattle.cc_source.specs.Refused.{IsRejectionOf}
 use Rattle.cc_report.specs.declared.outcome.Outcome.{Outcome}
 use Rattle.cc_report.specs.declared.outcome.Outcome.TheVariants.{Refused, NoMemory}
-use Rattle.cc_view_command.specs.declared.arguments.Drawing.{Drawing}
-use Rattle.cc_view_steps.specs.cc_view_source.Made.{IsMade}
+use Rattle.cc_view_source.specs.declared.arguments.Drawing.{Drawing}
+use Rattle.cc_view_source.specs.Made.{IsMade}
 use Rattle.cc_view.specs.Shown.{GraphShows, StepsShow, ListingShows, ExplainShows}
 
 -- ---- the source is refused, or memory ran out while it was made

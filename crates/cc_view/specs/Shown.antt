@@ -2,20 +2,20 @@
 use Rattle.std.specs.Prelude.{◌≡◌, ℕ, List, [], Option, Some, None, length}
 use Rattle.g_graph.specs.declared.steps.Rule.{Rule}
 use Rattle.g_graph.specs.Plain.{PlainOmega, PlainOptimised}
-use Rattle.cc_emit_def.specs.Image.{lambdas_of}
+use Rattle.cc_emit.specs.Image.{lambdas_of}
 use Rattle.cc_listing.specs.Lines.{IsListing}
-use Rattle.cc_refusal.specs.cc_source.Accepted.{Refuses}
-use Rattle.cc_refusal.specs.cc_source.declared.fault.CompileFault.{CompileFault}
-use Rattle.cc_refusal.specs.Refusal.{refusal_of}
-use Rattle.cc_refusal.specs.Refused.{IsRefused}
+use Rattle.cc_source.specs.Accepted.{Refuses}
+use Rattle.cc_source.specs.declared.fault.CompileFault.{CompileFault}
+use Rattle.cc_source.specs.Refusal.{refusal_of}
+use Rattle.cc_source.specs.Refused.{IsRefused}
 use Rattle.cc_report.specs.declared.refusal.Refusal.{Refusal}
 use Rattle.cc_report.specs.declared.outcome.Outcome.{Outcome}
 use Rattle.cc_report.specs.declared.outcome.Outcome.TheVariants.{Done, Usage, Refused, NoMemory}
-use Rattle.cc_view_command.specs.declared.arguments.Drawing.{Drawing}
-use Rattle.cc_view_steps.specs.cc_view_source.Made.{IsMade}
-use Rattle.cc_view_graph.specs.Drawn.{AreShown, IsOneShown, IsThere}
-use Rattle.cc_view_steps.specs.Tables.{AreTables}
-use Rattle.cc_view_explain.specs.Explanation.{IsExplained, IsRefusalText}
+use Rattle.cc_view_source.specs.declared.arguments.Drawing.{Drawing}
+use Rattle.cc_view_source.specs.Made.{IsMade}
+use Rattle.cc_view_source.specs.Drawn.{AreShown, IsOneShown, IsThere}
+use Rattle.cc_view_source.specs.Tables.{AreTables}
+use Rattle.cc_view.specs.Explanation.{IsExplained, IsRefusalText}
 
 -- of the program of the text, and what the recipe makes of its functions
 abbrev pub OfMade : List Rule → (source : List ℕ) → (PlainOmega → List PlainOptimised → Type 0) → Type 0

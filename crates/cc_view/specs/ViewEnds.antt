@@ -1,15 +1,15 @@
 -- How a command ends: the cause of each outcome, and what the output holds then. No file changes.
 use Rattle.std.specs.Prelude.{◌≡◌, ◌⊎◌, ◌+◌, ◌++◌, ℕ, List, codes, take, Option, Some, None}
 use Rattle.std.specs.Option.{ForSome}
-use Rattle.limits.specs.Limits.{most_source_bytes}
+use Rattle.base.specs.Limits.{most_source_bytes}
 use Rattle.g_graph.specs.declared.steps.Rule.{Rule}
 use Rattle.cc_io.specs.Faults.{Increased}
 use Rattle.cc_io.specs.Files.{Name, FileSet, content}
 use Rattle.cc_io.specs.Sink.{append}
-use Rattle.cc_view_steps.specs.cc_compile.RecipeText.{IsTextOf}
-use Rattle.cc_view_command.specs.Command.{Command, graph, steps, listing, explain}
+use Rattle.cc_compile.specs.RecipeText.{IsTextOf}
+use Rattle.cc_view_source.specs.Command.{Command, graph, steps, listing, explain}
 use Rattle.cc_view.specs.Shown.{GraphShows, StepsShow, ListingShows, ExplainShows}
-use Rattle.cc_outside.specs.Outside.{FilesSeen, StreamSeen, ReadFails, Unchanged}
+use Rattle.cc_io.specs.Outside.{FilesSeen, StreamSeen, ReadFails, Unchanged}
 use Rattle.cc_report.specs.Outcome.{line, text_of}
 use Rattle.cc_report.specs.declared.outcome.Outcome.{Outcome}
 use Rattle.cc_report.specs.declared.outcome.Outcome.TheVariants.{Usage, ReadFault, WriteFault, NoMemory}

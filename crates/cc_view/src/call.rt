@@ -3,26 +3,26 @@
 ghost use Rattle.std.specs.Prelude.{◌≡◌, ◌⊎◌, ◌≤◌, ◌+◌, length, map, take, IfErr, IfOk};
 ghost use Rattle.std.specs.Option.{ForSome};
 ghost use Rattle.std.specs.String.{string_bytes};
-ghost use Rattle.limits.specs.Limits.{most_source_bytes};
+ghost use Rattle.base.specs.Limits.{most_source_bytes};
 ghost use Rattle.cc_io.specs.Files.{content};
-ghost use Rattle.cc_outside.specs.Outside.{files_seen, stream_seen, ReadFails};
+ghost use Rattle.cc_io.specs.Outside.{files_seen, stream_seen, ReadFails};
 ghost use Rattle.cc_report.specs.Report.{IsReported};
 ghost use Rattle.cc_report.specs.declared.outcome.Outcome.{Outcome};
 ghost use Rattle.cc_report.specs.declared.outcome.Outcome.TheVariants.{NoMemory, ReadFault};
-ghost use Rattle.cc_view_command.specs.Command.{command_of};
-ghost use Rattle.cc_view_command.specs.PlainCommand.{plain_command};
+ghost use Rattle.cc_view_source.specs.Command.{command_of};
+ghost use Rattle.cc_view_source.specs.PlainCommand.{plain_command};
 ghost use Rattle.cc_view.specs.ViewEnds.{list_of, said_of, source_of, CommandShows, IsWritten, ShownCause, ViewEnds, ViewEndsUnder};
 
 use crate::shown::{Shown, show};
 use crate::telling::tell_ended;
+use base::MOST_SOURCE_BYTES;
+use cc_compile::recipe_of;
+use cc_io::load::{LoadError, load};
 use cc_io::{Files, Sink, write_all};
-use cc_outside::load::{LoadError, load};
 use cc_report::Outcome;
-use cc_view_command::{Command, parse_command};
-use cc_view_steps::cc_compile::recipe_of;
-use cc_view_steps::g_pass::Recipe;
-use cc_view_steps::g_pass::laws::texts_have_one_recipe;
-use limits::MOST_SOURCE_BYTES;
+use cc_view_source::{Command, parse_command};
+use g_pass::Recipe;
+use g_pass::laws::texts_have_one_recipe;
 use std::alloc::Global;
 
 // The name of the file of the source.

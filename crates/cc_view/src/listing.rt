@@ -2,13 +2,13 @@
 
 ghost use Rattle.std.specs.Prelude.{map, IfOk};
 ghost use Rattle.std.specs.Arc.{arc_value};
-ghost use Rattle.cc_emit_def.specs.Image.{lambdas_of, CanEmit};
+ghost use Rattle.cc_emit.specs.Image.{lambdas_of, CanEmit};
 ghost use Rattle.cc_listing.specs.Lines.{IsListing};
 
+use base::NoMemory;
+use cc_emit::emit;
 use cc_listing::listing;
-use cc_view_steps::cc_emit::emit;
-use cc_view_steps::cc_view_source::{Made, names_at};
-use no_memory::NoMemory;
+use cc_view_source::{Made, names_at};
 use s_linear::CodeForm;
 use std::alloc::Global;
 

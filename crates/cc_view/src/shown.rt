@@ -3,24 +3,20 @@
 ghost use Rattle.std.specs.Prelude.{◌≡◌, ◌<◌, ◌^◌, List, Option, ℕ, [], None, Some, length, map, option_map};
 ghost use Rattle.std.specs.Arc.{arc_value};
 ghost use Rattle.g_graph.specs.declared.steps.Rule.{Rule};
-ghost use Rattle.cc_refusal.specs.cc_source.Accepted.{Refuses};
-ghost use Rattle.cc_refusal.specs.Refused.{IsRejectionOf};
+ghost use Rattle.cc_source.specs.Accepted.{Refuses};
+ghost use Rattle.cc_source.specs.Refused.{IsRejectionOf};
 ghost use Rattle.cc_report.specs.declared.outcome.Outcome.TheVariants.{Done};
-ghost use Rattle.cc_view_command.specs.PlainCommand.{plain_command};
-ghost use Rattle.cc_view_steps.specs.cc_view_source.Made.{IsMade};
+ghost use Rattle.cc_view_source.specs.PlainCommand.{plain_command};
+ghost use Rattle.cc_view_source.specs.Made.{IsMade};
 ghost use Rattle.cc_view.specs.Shown.{ExplainShows, GraphShows, IsOfSome, ListingShows, StepsShow};
 ghost use Rattle.cc_view.specs.ViewEnds.{CommandShows};
 
 use crate::listing::listing_of;
-use cc_refusal::cc_source::CompileFault;
-use cc_refusal::{outcome_of, refusal_of};
+use crate::{accepted_text, refused_text};
 use cc_report::Outcome;
-use cc_view_command::{Command, Drawing};
-use cc_view_explain::{accepted_text, refused_text};
-use cc_view_graph::{graph_of_all, graph_of_one};
-use cc_view_steps::cc_view_source::{Made, make};
-use cc_view_steps::g_pass::Recipe;
-use cc_view_steps::tables_of;
+use cc_source::{CompileFault, outcome_of, refusal_of};
+use cc_view_source::{Command, Drawing, Made, graph_of_all, graph_of_one, make, tables_of};
+use g_pass::Recipe;
 use std::alloc::Global;
 
 /// How a command ends, and what it shows.

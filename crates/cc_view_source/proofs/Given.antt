@@ -13,7 +13,7 @@ use Rattle.g_pass_def.specs.Answers.{lambda_of, lambdas_of, program}
 use Rattle.g_pass_def.specs.Replayed.{lambdas_at}
 use Rattle.g_pass_def.specs.Sweep.{optimise}
 use Rattle.g_pass_def.proofs.lemmas.Answers.{made-of}
-use Rattle.cc_compile.specs.g_pass.Sweep.{rules}
+use Rattle.g_pass.specs.Sweep.{rules}
 use Rattle.cc_view_source.specs.Made.{AreCallees}
 
 lambda-at : (made : List PlainOptimised) (n : ℕ) (d : PlainOptimised) → n < length made → lambda_of (lambdas_of made) n ≡ (get_or made n d).lambda

@@ -1,1 +1,6 @@
+mod CommandLemmas
+mod CommandRowsLemmas
+mod OneShown
+mod Replays
 mod Given
+mod SweepsAdd

@@ -1,4 +1,10 @@
+pub mod Command
+pub mod Arguments
+pub mod PlainCommand
+pub mod CommandRows
+pub mod Drawn
+pub mod Laws
 pub mod Made
 pub mod Names
--- What is passed on of the libraries below.
-pub use Rattle.cc_compile.specs as cc_compile
+pub mod TableLaws
+pub mod Tables

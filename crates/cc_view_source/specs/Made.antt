@@ -6,9 +6,9 @@ use Rattle.g_graph.specs.Plain.{PlainLambda, PlainOmega, PlainOptimised}
 use Rattle.g_build_def.specs.Functions as built
 use Rattle.g_pass_def.specs.Answers.{AreAnswers, lambda_of}
 use Rattle.g_pass_def.specs.Sweep.{optimise}
-use Rattle.cc_compile.specs.g_pass.Sweep.{rules}
-use Rattle.cc_compile.specs.cc_emit_def.Image.{lambdas_of, CanEmit}
-use Rattle.cc_compile.specs.cc_source.Accepted.{Accepts}
+use Rattle.g_pass.specs.Sweep.{rules}
+use Rattle.cc_emit.specs.Image.{lambdas_of, CanEmit}
+use Rattle.cc_source.specs.Accepted.{Accepts}
 
 -- A program has this graph, the recipe makes these of its lambdas, and both can be put in an image.
 pub record IsMadeOf (recipe : List Rule) (p : ProgramTree) (omega : PlainOmega) (answers : List PlainOptimised) : Type 0 where

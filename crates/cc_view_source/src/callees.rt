@@ -8,10 +8,10 @@ ghost use Rattle.g_pass_def.specs.Answers.{lambdas_of};
 ghost use Rattle.g_pass_def.specs.Replayed.{lambdas_at};
 ghost use Rattle.cc_view_source.specs.Made.{AreCallees};
 
+use base::NoMemory;
 use g_graph::{Lambda, Optimised};
 use g_pass_order::Order;
 use g_pass_order::laws::orders_are_unique;
-use no_memory::NoMemory;
 use std::alloc::Global;
 use std::sync::Arc;
 

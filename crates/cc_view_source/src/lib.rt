@@ -1,16 +1,29 @@
-//! From a source to what is shown of it: its graph, and what a recipe makes of each function.
-//! Promise: both are those of the image of the source under the recipe.
-//! Always: a fault is that of the phase that refuses the source, out of memory apart.
+//! What is shown of a source: its text, its steps and its graphs, and the command line for it.
+//! Promise: a lambda that is drawn is the answer, or what the steps make of the lambda as built.
+//! Both are those of the image of the source under the recipe. The sweeps are those that make the
+//! answer of the function, each in its numbers.
+//! Always: no arguments but those of the definition are a command. Functions are in source order,
+//! each once. A fault is that of the phase that refuses the source, out of memory apart.
+//! Functions are in source order, and sweeps in the order of the recipe.
 #![tactic(auto)]
 
-// What is passed on of the libraries below.
-pub use cc_compile;
-pub use cc_compile::cc_emit;
-
+mod all;
+mod arguments;
 mod callees;
+pub mod command_laws;
+pub mod laws;
 mod making;
 mod names;
+mod one;
+mod showing;
+pub mod table_laws;
+mod tables;
+mod text;
 
+pub use all::graph_of_all;
+pub use arguments::{Command, Drawing, parse_command};
 pub use callees::callees_at;
 pub use making::{Made, make};
 pub use names::{function_name, names_at};
+pub use one::graph_of_one;
+pub use tables::tables_of;

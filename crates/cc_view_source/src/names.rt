@@ -3,8 +3,7 @@
 ghost use Rattle.std.specs.Prelude.{◌≡◌};
 ghost use Rattle.cc_view_source.specs.Names.{function_name};
 
-use c_lex::Name;
-use no_memory::NoMemory;
+use base::{Name, NoMemory};
 use std::alloc::Global;
 
 /// The name of the function of this number, and an empty one where there is none.

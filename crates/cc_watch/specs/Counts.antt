@@ -2,7 +2,7 @@
 use Rattle.std.specs.Prelude.{◌≡◌, ◌%◌, ◌^◌, List, length, slice_index, sum_by}
 use Rattle.g_graph.specs.declared.steps.Rule.{Rule}
 use Rattle.cc_watch.specs.Rows.{PlainRow}
-use Rattle.r_names.specs.Names.{rule_place}
+use Rattle.r_rule.specs.Names.{rule_place}
 use Rattle.cc_watch.specs.Texts.{applied}
 use Rattle.cc_watch.specs.declared.counter.Counter.{Counter}
 

@@ -4,8 +4,8 @@ ghost use Rattle.std.specs.Prelude.{◌≡◌, IfOk};
 
 use crate::text::push_log;
 use crate::{Row, Watcher};
+use base::NoMemory;
 use g_graph::{Step, StepList};
-use no_memory::NoMemory;
 use std::alloc::Global;
 use std::marker::Model;
 

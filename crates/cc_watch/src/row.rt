@@ -1,8 +1,7 @@
 //! Rows: what a recipe did to one function.
 
-use c_lex::Name;
+use base::{Name, NoMemory};
 use g_graph::StepList;
-use no_memory::NoMemory;
 use std::marker::Model;
 
 /// What a recipe did to a function: its name, how many values its graph has before and after, and

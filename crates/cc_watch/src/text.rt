@@ -1,14 +1,14 @@
 //! Pieces of texts. Where memory is refused in the middle of a text, its beginning is there.
 
 ghost use Rattle.std.specs.Prelude.{◌≡◌, ◌++◌, flat_map, OnOk, OnErr};
-ghost use Rattle.r_names.specs.Names.{rule_name};
+ghost use Rattle.r_rule.specs.Names.{rule_name};
 ghost use Rattle.cc_watch.specs.Texts.{head_text, number_text, row_text, step_text, log_text, Extends};
 
 use crate::Row;
+use base::NoMemory;
 use g_graph::{Rule, Step};
 use itoa::Buffer;
-use no_memory::NoMemory;
-use r_names::rule_name;
+use r_rule::rule_name;
 
 /// Appends bytes.
 pub fn push_bytes(out: &mut Vec<u8>, bytes: &[u8]) -> Result<(), NoMemory>

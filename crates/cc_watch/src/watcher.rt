@@ -1,7 +1,7 @@
 //! The interface of watchers.
 
 use crate::Row;
-use no_memory::NoMemory;
+use base::NoMemory;
 
 /// A value that learns what a recipe did to each function, a row at a time, and gives a text of it.
 /// An implementation says when a value *stands for* a list of rows, and which text it gives of such

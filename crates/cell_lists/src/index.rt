@@ -12,7 +12,7 @@ ghost use Rattle.cell_lists.specs.Keys.{
 };
 
 use crate::CellLists;
-use no_memory::NoMemory;
+use base::NoMemory;
 use std::alloc::Global;
 use std::marker::Model;
 

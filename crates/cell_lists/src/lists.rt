@@ -19,7 +19,7 @@ ghost use Rattle.cell_lists.specs.Lists.{
 };
 
 use crate::links::{Ends, Link, set_after, set_before, with_last, with_other, without_cell};
-use no_memory::NoMemory;
+use base::NoMemory;
 use std::alloc::Global;
 use std::marker::Model;
 

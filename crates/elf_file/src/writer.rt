@@ -8,7 +8,7 @@ ghost use Rattle.elf_file.specs.Written.{fixed_offset, data_offset, text_header,
 
 use crate::header::{LOAD, ProgramHeader, push_elf_header, push_program_header};
 use crate::image::{Image, PAGE, STACK_SIZE, TEXT_AT};
-use no_memory::NoMemory;
+use base::NoMemory;
 use std::alloc::{AllocError, Global};
 
 impl Image {

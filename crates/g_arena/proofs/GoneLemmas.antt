@@ -12,13 +12,13 @@ use Rattle.g_arena_def.specs.declared.place.Place.{Place}
 use Rattle.g_arena_def.specs.Flat.{place_in}
 use Rattle.g_arena_def.specs.Edits.{at_with}
 use Rattle.g_arena_use.specs.Lists.{PlainList, PlainUses, origins_at, emptied}
-use Rattle.g_arena_slots.specs.Plain.{PlainSlot, no_slot, is_live, slot_at, id_at, numbers_of, live_from, live_slot, args_of, output_in, kind_at, number_index, is_index, went_at, node_went, slot_gone}
-use Rattle.g_arena_slot_laws.specs.Seen.{homes_of}
-use Rattle.g_arena_slot_laws.specs.Indexed.{IsOfSlot, AreIndexed}
-use Rattle.g_arena_slot_laws.proofs.SeenLemmas.{apart, same_slot}
-use Rattle.g_arena_slot_laws.proofs.ResultLemmas.{origins_same}
-use Rattle.g_arena_slot_laws.proofs.ReadLemmas.{slot_there}
-use Rattle.g_arena_slot_laws.proofs.ChangeLemmas.{AreKept, kept_same, edited_kept}
+use Rattle.g_arena_use.specs.Plain.{PlainSlot, no_slot, is_live, slot_at, id_at, numbers_of, live_from, live_slot, args_of, output_in, kind_at, number_index, is_index, went_at, node_went, slot_gone}
+use Rattle.g_arena_use.specs.Seen.{homes_of}
+use Rattle.g_arena_use.specs.Indexed.{IsOfSlot, AreIndexed}
+use Rattle.g_arena_use.proofs.SeenLemmas.{apart, same_slot}
+use Rattle.g_arena_use.proofs.ResultLemmas.{origins_same}
+use Rattle.g_arena_use.proofs.ReadLemmas.{slot_there}
+use Rattle.g_arena_use.proofs.ChangeLemmas.{AreKept, kept_same, edited_kept}
 use Rattle.g_arena.specs.Gone.{AreGone, cleared}
 
 -- ---- lists that lose their origins

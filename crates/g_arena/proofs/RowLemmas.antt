@@ -6,10 +6,10 @@ use Rattle.cell_lists.specs.Lists.{is_in, AreDistinct}
 use Rattle.g_arena_def.specs.Flat.{FlatNode, place_in}
 use Rattle.g_arena_nodes.specs.Made.{HasNumbersOnce}
 use Rattle.g_arena_use.specs.Lists.{PlainList, no_list, origins_at}
-use Rattle.g_arena_slots.specs.Plain.{PlainSlot, no_slot, slot_at, is_live, numbers_of}
-use Rattle.g_arena_slot_laws.specs.Seen.{slot_seen, nodes_seen}
-use Rattle.g_arena_slot_laws.specs.Indexed.{AreResults}
-use Rattle.g_arena_slot_laws.proofs.ReadLemmas.{home_at}
+use Rattle.g_arena_use.specs.Plain.{PlainSlot, no_slot, slot_at, is_live, numbers_of}
+use Rattle.g_arena_use.specs.Seen.{slot_seen, nodes_seen}
+use Rattle.g_arena_use.specs.Indexed.{AreResults}
+use Rattle.g_arena_use.proofs.ReadLemmas.{home_at}
 use Rattle.g_arena.specs.Rows.{HaveResults, with_row}
 
 pub row_more : (xs ls : List PlainList) (ss : List PlainSlot) (k : ℕ) (rows : List FlatNode) → k < length xs → length xs ≡ length ss

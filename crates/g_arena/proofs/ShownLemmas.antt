@@ -1,7 +1,7 @@
 -- What is stored in an arena, and what contracts see of it.
 use Rattle.std.proofs.Common.{◌≡◌, ap, sym}
 use Rattle.g_arena_def.specs.Flat.{Flat}
-use Rattle.g_arena_slot_laws.proofs.ReadLemmas.{Shown}
+use Rattle.g_arena_use.proofs.ReadLemmas.{Shown}
 use Rattle.g_arena.specs.declared.arena.Arena.TheInside.{Inside}
 use Rattle.g_arena.specs.Seen.{arena_seen, IsStored}
 

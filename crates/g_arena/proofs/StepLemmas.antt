@@ -19,9 +19,9 @@ use Rattle.g_arena_def.specs.Flat.{FlatRegion, FlatNode, place_in}
 use Rattle.g_arena_use.specs.declared.use_index.Use.{Use}
 use Rattle.g_arena_use.specs.UseCells.{same_use, is_named, IsNamed, with_name}
 use Rattle.g_arena_use.specs.Lists.{PlainList, use_in, AreNamedIn, AllNamed}
-use Rattle.g_arena_slots.specs.Plain.{PlainSlot, IsShort}
-use Rattle.g_arena_slot_laws.proofs.SeenLemmas.{apart}
-use Rattle.g_arena_slot_laws.proofs.ResultLemmas.{place_self}
+use Rattle.g_arena_use.specs.Plain.{PlainSlot, IsShort}
+use Rattle.g_arena_use.proofs.SeenLemmas.{apart}
+use Rattle.g_arena_use.proofs.ResultLemmas.{place_self}
 use Rattle.g_arena.specs.Stores.{ids_of, args_of, AreCounted, slot_of, slots_of, inputs_list, lists_of, results_of, body_list, AreKept, IsSlotNamed, AreStored}
 
 -- ---- the nodes

@@ -16,12 +16,12 @@ use Rattle.g_arena_def.specs.Flat.{FlatRegion, FlatNode, body_place, place_in, s
 use Rattle.g_arena_use.specs.declared.use_index.Use.{Use}
 use Rattle.g_arena_use.specs.UseCells.{IsNamed}
 use Rattle.g_arena_use.specs.Lists.{PlainList, PlainUses, no_list, origins_at, use_in}
-use Rattle.g_arena_slots.specs.Plain.{PlainSlot, all_live, slot_at, numbers_of, live_slot, args_of, output_in, kind_at}
-use Rattle.g_arena_slot_laws.specs.Seen.{homes_of, regions_seen, nodes_seen}
-use Rattle.g_arena_slot_laws.specs.Indexed.{IsOfSlot, AreIndexed}
-use Rattle.g_arena_slot_laws.proofs.SeenLemmas.{apart, same_slot, slot_is}
-use Rattle.g_arena_slot_laws.proofs.UseLemmas.{place_true}
-use Rattle.g_arena_slot_laws.proofs.ReadLemmas.{slot_there, get_within, some_within}
+use Rattle.g_arena_use.specs.Plain.{PlainSlot, all_live, slot_at, numbers_of, live_slot, args_of, output_in, kind_at}
+use Rattle.g_arena_use.specs.Seen.{homes_of, regions_seen, nodes_seen}
+use Rattle.g_arena_use.specs.Indexed.{IsOfSlot, AreIndexed}
+use Rattle.g_arena_use.proofs.SeenLemmas.{apart, same_slot, slot_is}
+use Rattle.g_arena_use.proofs.UseLemmas.{place_true}
+use Rattle.g_arena_use.proofs.ReadLemmas.{slot_there, get_within, some_within}
 use Rattle.g_arena.specs.Stores as store
 use Rattle.g_arena.specs.Stores.{ids_of, slot_of, slots_of, inputs_list, lists_of, results_of, body_list, AreRows, AreCovered, AreStored, AreReady, AreMade, AreParts}
 

@@ -9,13 +9,13 @@ use Rattle.g_graph.specs.declared.op.Kind.{Kind}
 use Rattle.g_arena_def.specs.Flat.{body_place, place_in, is_in}
 use Rattle.g_arena_def.specs.Edits.{at_with, regions_gone, nodes_without}
 use Rattle.g_arena_use.specs.Lists.{PlainList, PlainUses, origins_at, emptied}
-use Rattle.g_arena_slots.specs.Plain.{PlainSlot, IsThere, is_live, slot_at, id_at, numbers_of, live_from, node_went, slot_gone}
-use Rattle.g_arena_slot_laws.specs.Seen.{homes_of, regions_seen, slot_seen, nodes_seen}
-use Rattle.g_arena_slot_laws.specs.Indexed.{AreIndexed}
-use Rattle.g_arena_slot_laws.proofs.SeenLemmas.{apart, picks, skips, seen_at, same_slot}
-use Rattle.g_arena_slot_laws.proofs.ResultLemmas.{origins_same}
-use Rattle.g_arena_slot_laws.proofs.ReadLemmas.{slot_there, home_at}
-use Rattle.g_arena_slot_laws.proofs.ChangeLemmas.{edited_kept, indexed_kept}
+use Rattle.g_arena_use.specs.Plain.{PlainSlot, IsThere, is_live, slot_at, id_at, numbers_of, live_from, node_went, slot_gone}
+use Rattle.g_arena_use.specs.Seen.{homes_of, regions_seen, slot_seen, nodes_seen}
+use Rattle.g_arena_use.specs.Indexed.{AreIndexed}
+use Rattle.g_arena_use.proofs.SeenLemmas.{apart, picks, skips, seen_at, same_slot}
+use Rattle.g_arena_use.proofs.ResultLemmas.{origins_same}
+use Rattle.g_arena_use.proofs.ReadLemmas.{slot_there, home_at}
+use Rattle.g_arena_use.proofs.ChangeLemmas.{edited_kept, indexed_kept}
 use Rattle.g_arena.specs.Rows.{HasResults}
 use Rattle.g_arena.specs.Gone.{AreGone, cleared, ArePlaced, WentTogether}
 use Rattle.g_arena.proofs.GoneLemmas.{cleared_kept, cleared_none, cleared_other, emptied_at, marked_here, marked_other, marked, marked_indexed, marked_gone, went_more, none_went}

@@ -4,9 +4,9 @@ use Rattle.std.specs.declared.option.Option.TheVariants.{Some}
 use Rattle.g_graph.specs.declared.op.Kind.{Kind}
 use Rattle.g_arena_def.specs.Edits.{at_with, nodes_without}
 use Rattle.g_arena_use.specs.Lists.{PlainList, PlainUses, origins_at, emptied}
-use Rattle.g_arena_slots.specs.Plain.{PlainSlot, slot_at, is_live}
-use Rattle.g_arena_slot_laws.specs.Seen.{nodes_seen}
-use Rattle.g_arena_slot_laws.specs.Indexed.{AreIndexed}
+use Rattle.g_arena_use.specs.Plain.{PlainSlot, slot_at, is_live}
+use Rattle.g_arena_use.specs.Seen.{nodes_seen}
+use Rattle.g_arena_use.specs.Indexed.{AreIndexed}
 
 -- a node that went did so with one that is not there
 abbrev pub AreGone : List PlainSlot → Type 0

@@ -3,7 +3,7 @@ use Rattle.std.specs.Prelude.{◌≡◌, ℕ, ◌+◌, ◌<◌, Bool, if◌then�
 use Rattle.std.specs.declared.option.Option.TheVariants.{Some}
 use Rattle.g_arena_def.specs.Flat.{FlatNode}
 use Rattle.g_arena_use.specs.Lists.{PlainList}
-use Rattle.g_arena_slots.specs.Plain.{PlainSlot}
+use Rattle.g_arena_use.specs.Plain.{PlainSlot}
 
 -- the results of each region of a slot are a list
 abbrev pub HasResults : List PlainList → PlainSlot → Type 0

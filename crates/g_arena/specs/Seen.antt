@@ -1,8 +1,8 @@
 -- What contracts see of an arena, and how it is stored.
 use Rattle.g_arena_def.specs.Flat.{Flat}
 use Rattle.g_arena_use.specs.Lists.{origins_at}
-use Rattle.g_arena_slot_laws.specs.Seen.{nodes_seen}
-use Rattle.g_arena_slot_laws.specs.Indexed.{AreIndexed}
+use Rattle.g_arena_use.specs.Seen.{nodes_seen}
+use Rattle.g_arena_use.specs.Indexed.{AreIndexed}
 use Rattle.g_arena.specs.declared.arena.Arena.TheInside.{Inside}
 use Rattle.g_arena.specs.Gone.{AreGone}
 

@@ -10,9 +10,9 @@ use Rattle.g_arena_def.specs.Flat.{FlatRegion, FlatNode, body_place, place_in}
 use Rattle.g_arena_use.specs.declared.use_index.Use.{Use}
 use Rattle.g_arena_use.specs.UseCells.{IsNamed}
 use Rattle.g_arena_use.specs.Lists.{PlainList, PlainUses, use_in, origins_at, AllNamed}
-use Rattle.g_arena_slots.specs.Plain.{PlainSlot, AreShort, numbers_of, all_live, kind_at}
-use Rattle.g_arena_slot_laws.specs.Seen.{nodes_seen}
-use Rattle.g_arena_slot_laws.specs.Indexed.{AreIndexed}
+use Rattle.g_arena_use.specs.Plain.{PlainSlot, AreShort, numbers_of, all_live, kind_at}
+use Rattle.g_arena_use.specs.Seen.{nodes_seen}
+use Rattle.g_arena_use.specs.Indexed.{AreIndexed}
 use Rattle.g_arena.specs.Gone.{AreGone}
 
 abbrev pub ids_of : List FlatNode → List ℕ

@@ -13,7 +13,7 @@ ghost use Rattle.g_arena_def.specs.Reads.{
   uses_in,
 };
 ghost use Rattle.g_arena_use.specs.Lists.{emptied};
-ghost use Rattle.g_arena_slots.specs.Plain.{IsShort, IsThere, live_from, slot_at, slot_gone};
+ghost use Rattle.g_arena_use.specs.Plain.{IsShort, IsThere, live_from, slot_at, slot_gone};
 ghost use Rattle.g_arena_def.specs.Conditions.{
   IsResult,
   IsOrigin,
@@ -35,14 +35,13 @@ ghost use Rattle.g_arena_def.specs.Edits.{
 ghost use Rattle.g_arena.specs.Gone.{ArePlaced, WentTogether, cleared};
 ghost use Rattle.g_arena.specs.Rows.{HasResults};
 
+use base::Steps;
 use g_arena_def::Place;
-use g_arena_slots::{Kinds, Nodes, Slot};
-use g_arena_use::{Use, UseLists};
+use g_arena_use::{Kinds, Nodes, Slot, Use, UseLists};
 use g_graph::{Kind, Object, Op, Origin};
 use std::alloc::Global;
 use std::marker::Model;
 use std::sync::ledger::Ledger;
-use steps::Steps;
 
 /// A lambda with an index of its nodes by number, of their neighbours in pre-order, and of the uses
 /// of each origin. Contracts see the list of its nodes in pre-order.

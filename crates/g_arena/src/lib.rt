@@ -9,4 +9,4 @@ mod arena;
 mod making;
 
 pub use arena::{Arena, NodeView, Uses};
-pub use g_arena_keys::Keys;
+pub use g_arena_use::Keys;

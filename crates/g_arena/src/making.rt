@@ -10,8 +10,8 @@ ghost use Rattle.g_arena_def.specs.Flat.{StandsFor, body_place, place_in, in_reg
 ghost use Rattle.g_arena_def.specs.Size.{lambda_size};
 ghost use Rattle.g_arena_use.specs.UseCells.{IsNamed};
 ghost use Rattle.g_arena_use.specs.Lists.{AllNamed, AreNamedIn, origins_in, use_in};
-ghost use Rattle.g_arena_slots.specs.Plain.{AreShort, IsShort, PlainSlot, is_live};
-ghost use Rattle.g_arena_slot_laws.specs.Seen.{regions_seen, slot_seen, nodes_seen};
+ghost use Rattle.g_arena_use.specs.Plain.{AreShort, IsShort, PlainSlot, is_live};
+ghost use Rattle.g_arena_use.specs.Seen.{regions_seen, slot_seen, nodes_seen};
 ghost use Rattle.g_arena.specs.Rows.{HasResults, HaveResults, with_row};
 ghost use Rattle.g_arena.specs.Stores.{
   AreCounted,
@@ -31,17 +31,15 @@ ghost use Rattle.g_arena.specs.Stores.{
 };
 
 use crate::Arena;
+use base::{NoMemory, Steps};
 use g_arena_def::Place;
 use g_arena_nodes::{Row, RowRegion, Rows, region_of, rows_of};
-use g_arena_slots::{Kinds, Nodes, Slot};
-use g_arena_use::{OriginList, Use, UseLists, UseNames};
+use g_arena_use::{Kinds, Nodes, OriginList, Slot, Use, UseLists, UseNames};
 use g_graph::{Kind, Lambda, Origin};
 use indexmap::IndexSet;
-use no_memory::NoMemory;
 use smallvec::SmallVec;
 use std::alloc::Global;
 use std::sync::ledger::Ledger;
-use steps::Steps;
 
 // The place of the body.
 const BODY: Place = Place {

@@ -2,9 +2,6 @@
 //! Always: a list of nodes with numbers of their own is that of one lambda alone.
 #![tactic(auto)]
 
-// What is passed on of the libraries below.
-pub use g_graph;
-
 pub mod laws;
 mod place;
 

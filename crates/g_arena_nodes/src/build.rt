@@ -27,13 +27,12 @@ ghost use Rattle.g_arena_nodes.specs.Made.{
 };
 
 use crate::rows::{Row, RowRegion, Rows, look_twice, place_of};
+use base::{NoMemory, Steps};
 use g_arena_def::Place;
 use g_graph::{Node, Op, Region, op_outputs};
-use no_memory::NoMemory;
 use std::alloc::Global;
 use std::collections::VecDeque;
 use std::sync::ledger::Ledger;
-use steps::Steps;
 
 /// The body of the lambda of a list, if it is the list of one, in which no number stands twice. It
 /// costs two looks for each value of the lambda and each input of a node.

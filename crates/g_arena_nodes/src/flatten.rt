@@ -17,14 +17,13 @@ ghost use Rattle.g_arena_def.specs.Size.{region_inputs, node_inputs, regions_inp
 ghost use Rattle.g_arena_nodes.specs.Listed.{first_kinds, kind_at, kinds_by, node_row};
 
 use crate::rows::{Row, RowRegion, Rows, look_twice, place_of};
+use base::{NoMemory, Steps};
 use g_arena_def::Place;
 use g_graph::{Kind, Node, Op, Origin, Region, first_args, op_outputs};
 use indexmap::IndexMap;
-use no_memory::NoMemory;
 use smallvec::SmallVec;
 use std::alloc::Global;
 use std::sync::ledger::Ledger;
-use steps::Steps;
 
 /// The body of a lambda and its nodes in pre-order. It costs two looks for each value of the lambda
 /// and each input of a node. NoMemory also where a node has more than 4294967296 regions.

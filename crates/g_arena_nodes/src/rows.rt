@@ -3,13 +3,12 @@
 ghost use Rattle.std.specs.Prelude.{◌≡◌, ◌+◌, ◌*◌, IfOk};
 ghost use Rattle.g_arena_def.specs.Flat.{place_in};
 
+use base::{NoMemory, Steps};
 use g_arena_def::Place;
 use g_graph::{Kind, Op, Origin};
-use no_memory::NoMemory;
 use smallvec::SmallVec;
 use std::marker::Model;
 use std::sync::ledger::Ledger;
-use steps::Steps;
 
 /// The arguments of a region by kind, and where its results come from. Contracts see it as a plain
 /// record.

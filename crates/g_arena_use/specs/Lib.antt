@@ -1,3 +1,9 @@
+pub mod Kept
+pub mod KeptKeys
+pub mod Seen
+pub mod Indexed
+pub mod Plain
+pub mod Numbered
 pub mod UseCells
 pub mod Named
 pub mod Lists

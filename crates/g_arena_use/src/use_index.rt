@@ -18,11 +18,11 @@ ghost use Rattle.g_arena_use.specs.Named.{AreOnce};
 ghost use Rattle.g_arena_use.specs.Lists.{AreNamedIn};
 ghost use Rattle.g_arena_use.specs.Sites.{held};
 
+use base::NoMemory;
 use cell_lists::InvertedIndex;
 use g_arena_def::Place;
 use g_graph::Origin;
 use indexmap::IndexSet;
-use no_memory::NoMemory;
 use std::alloc::Global;
 use std::marker::Model;
 

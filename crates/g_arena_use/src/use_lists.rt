@@ -22,9 +22,9 @@ ghost use Rattle.g_arena_use.specs.Lists.{
 ghost use Rattle.g_arena_use.specs.Sites.{list_seen, held, cells_of, AreLaid, AreFull};
 
 use crate::use_index::{Use, UseIndex, UseNames};
+use base::NoMemory;
 use g_arena_def::Place;
 use g_graph::Origin;
-use no_memory::NoMemory;
 use smallvec::SmallVec;
 use std::alloc::Global;
 use std::marker::Model;

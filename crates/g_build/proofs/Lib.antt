@@ -1,1 +1,5 @@
 pub mod WrittenBytes
+pub mod Parts
+pub mod Items
+pub mod Numbering
+pub mod Segments

@@ -2,7 +2,7 @@
 use Rattle.std.specs.Prelude.{ℕ, ◌+◌, nat_lt, if◌then◌else◌, List, [], ◌∷◌, Option, None, Some}
 use Rattle.std.specs.List.{sum_by}
 use Rattle.std.specs.Option.{option_or}
-use Rattle.limits.specs.Limits.{most_lambda_values, most_built_values}
+use Rattle.base.specs.Limits.{most_lambda_values, most_built_values}
 use Rattle.c_typed.specs.Typed.{FunctionTree}
 use Rattle.g_graph.specs.Count.{saturated}
 use Rattle.g_build_def.specs.Functions.{function_values}

@@ -9,12 +9,12 @@ ghost use Rattle.g_build.specs.Bodies.{jumping_from, straight_from};
 
 use crate::params::{enter, store_params};
 use crate::straight_body::{end_value, straight};
+use crate::{Objects, list};
+use base::NoMemory;
 use c_typed::TFunction;
+use g_build_count::{body_jumps, params_of};
 use g_build_expression::{Body, Builder};
-use g_build_statement::g_build_count::{body_jumps, params_of};
-use g_build_statement::{Objects, list};
 use g_graph::{Kind, Origin};
-use no_memory::NoMemory;
 use std::alloc::Global;
 
 // `go` and `ret` begin.

@@ -8,10 +8,10 @@ ghost use Rattle.c_typed.specs.WellTyped.{IsWellTyped};
 ghost use Rattle.g_build_def.specs.Globals.{bytes_from, links_in, global_made, globals_made};
 ghost use Rattle.g_build.specs.Globals.{StandApart, item_bytes};
 
+use base::NoMemory;
 use c_type::{Types, leaves, size_of};
 use c_typed::{TGlobal, Typed, Written};
 use g_graph::{Delta, Link};
-use no_memory::NoMemory;
 use std::alloc::Global;
 
 // Zeros up to an offset, and a word there, the lowest byte first.

@@ -6,10 +6,10 @@ ghost use Rattle.c_typed.specs.WellTyped.{VariablesFit};
 ghost use Rattle.g_build_def.specs.Functions.{object_made, objects_made, lambda_made};
 
 use crate::body::build_body;
+use base::NoMemory;
 use c_type::{Types, leaves, size_of};
 use c_typed::{TFunction, Typed, Variable};
 use g_graph::{Lambda, Object};
-use no_memory::NoMemory;
 use std::alloc::Global;
 
 fn object(alloc: Global, types: &Types, variable: &Variable) -> Result<Object, NoMemory>

@@ -26,16 +26,16 @@ pub enum BuildFault {
     NoMemory,
 }
 
-impl From<no_memory::NoMemory> for BuildFault {
+impl From<base::NoMemory> for BuildFault {
     ghost from_gives = { λ _ e. e ≡ NoMemory };
 
-    fn from(_e: no_memory::NoMemory) -> BuildFault {
+    fn from(_e: base::NoMemory) -> BuildFault {
         BuildFault::NoMemory
     }
 }
 
 // The graph of a program that is within the limits.
-fn build_omega(alloc: Global, typed: &Typed) -> Result<Omega, no_memory::NoMemory>
+fn build_omega(alloc: Global, typed: &Typed) -> Result<Omega, base::NoMemory>
     requires { IsWellTyped typed.now }
     ensures { IfOk result (λ o. o ≡ omega typed.now) }
 {

@@ -7,11 +7,11 @@ ghost use Rattle.g_build_def.specs.Functions.{params_carried, params_stored};
 ghost use Rattle.g_build_expression.specs.Work.{made, moved_to};
 ghost use Rattle.g_build_expression.specs.SlotViews.{slot_of};
 
+use crate::{number_after, store_object};
+use base::NoMemory;
 use c_typed::Variable;
 use g_build_expression::{Builder, InScope, access_width};
-use g_build_statement::{number_after, store_object};
 use g_graph::Origin;
-use no_memory::NoMemory;
 
 fn in_scope(is_object: bool, number: u32, argument: u32) -> InScope
     ensures { slot_of result ≡

@@ -6,9 +6,9 @@ ghost use Rattle.g_graph.specs.Count.{saturated};
 ghost use Rattle.g_build_def.specs.Functions.{function_values};
 ghost use Rattle.g_build.specs.Passed.{limit_passed, first_large, first_beyond};
 
+use base::{MOST_BUILT_VALUES, MOST_LAMBDA_VALUES};
 use c_typed::TFunction;
-use g_build_statement::g_build_count::count;
-use limits::{MOST_BUILT_VALUES, MOST_LAMBDA_VALUES};
+use g_build_count::count;
 
 /// A limit that a program passes: the offset of the name of the function that passes it, its number
 /// (5, the values of one lambda, or 6, those of all lambdas), and how many values there are,

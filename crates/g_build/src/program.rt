@@ -5,10 +5,9 @@ ghost use Rattle.c_typed.specs.WellTyped.{IsWellTyped};
 ghost use Rattle.g_build_def.specs.Functions.{graph, names};
 
 use crate::lambda::build_lambda;
-use c_lex::Name;
+use base::{Name, NoMemory};
 use c_typed::Typed;
 use g_graph::Lambda;
-use no_memory::NoMemory;
 use std::alloc::Global;
 
 /// The lambdas of the functions of a well-typed program. `NoMemory` as `build_body`.

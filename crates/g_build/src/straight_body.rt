@@ -6,12 +6,12 @@ ghost use Rattle.g_build_def.specs.Functions.{end_value, straight_made};
 ghost use Rattle.g_build_expression.specs.Work.{made};
 ghost use Rattle.g_build.specs.Bodies.{returned_made};
 
+use crate::{Objects, declare, statement};
+use base::NoMemory;
 use c_typed::{Item, StmtForm, TStmt};
+use g_build_count::{is_return, items_follow};
 use g_build_expression::Builder;
-use g_build_statement::g_build_count::{is_return, items_follow};
-use g_build_statement::{Objects, declare, statement};
 use g_graph::Origin;
-use no_memory::NoMemory;
 
 /// What a function gives that ends without a `return`: 0 for `main`.
 pub fn end_value(b: &mut Builder, is_main: bool) -> Result<Origin, NoMemory>

@@ -9,8 +9,8 @@ ghost use Rattle.g_build_expression.specs.SlotViews.{slot_of, form_of};
 ghost use Rattle.g_build_expression.specs.Work.{made, moved_to, opened, open_region, without_nodes, enclosing_is, region_added, with_regions, node_added, applied, carried_from, begun, closed, with_exchanged, ended, ended_id, extra_count, node_ended, ended_value};
 
 use crate::variables::{InScope, Variables, origin_from};
+use base::NoMemory;
 use g_graph::{Kind, Node, Op, Origin, Region};
-use no_memory::NoMemory;
 use smallvec::SmallVec;
 use std::alloc::Global;
 use std::marker::Model;

@@ -5,8 +5,8 @@ ghost use Rattle.g_build_expression.specs.Work.{begun, closed, ended_value};
 ghost use Rattle.g_build_expression.specs.Choices.{in_order, chosen};
 
 use crate::builder::Builder;
+use base::NoMemory;
 use g_graph::{Op, Origin};
-use no_memory::NoMemory;
 
 /// The region of a choice that is made first, and whose nodes get their numbers first.
 #[derive(Clone, Copy)]

@@ -12,10 +12,10 @@ ghost use Rattle.g_build_expression.specs.Parts.{chosen_value, compound_end, ste
 use crate::builder::Builder;
 use crate::choices::RegionOrder;
 use crate::places::Spot;
+use base::NoMemory;
 use c_type::{CType, TypeForm};
 use c_typed::{CompoundOp, ExprForm, IncDec, PlaceForm, TExpr, TPlace};
 use g_graph::Origin;
-use no_memory::NoMemory;
 
 // What a region of a `?:` of this type gives, if anything.
 fn extra_of(t: &CType, value: Origin) -> Option<Origin>

@@ -9,10 +9,10 @@ ghost use Rattle.c_typed.specs.WellTyped.{int, step_op};
 ghost use Rattle.g_build_expression.specs.Work.{made};
 
 use crate::builder::Builder;
+use base::NoMemory;
 use c_type::{CType, Scalar, TypeForm};
 use c_typed::{BinaryOp, CompoundOp, IncDec, Relation, UnaryOp};
 use g_graph::{Op, Origin};
-use no_memory::NoMemory;
 use val_core::{Op1, Op2};
 
 /// The bytes of a scalar object: 1, 2 or 4.

@@ -9,9 +9,9 @@ ghost use Rattle.g_build_expression.specs.Work.{made};
 use crate::builder::Builder;
 use crate::operations::access_width;
 use crate::variables::{InScope, value_origin};
+use base::NoMemory;
 use c_type::CType;
 use g_graph::Origin;
-use no_memory::NoMemory;
 
 /// What a place is once its address is made.
 #[derive(Clone, Copy)]

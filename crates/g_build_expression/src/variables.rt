@@ -9,8 +9,8 @@ ghost use Rattle.g_build_expression.specs.SlotViews.{slot_of};
 ghost use Rattle.g_build_expression.specs.Places.{is_hidden, slot_set, held_set};
 ghost use Rattle.g_build_expression.specs.Numbers.{origin_from, slot_at, slot_values};
 
+use base::NoMemory;
 use g_graph::{Kind, Origin};
-use no_memory::NoMemory;
 use std::alloc::Global;
 use std::marker::Model;
 

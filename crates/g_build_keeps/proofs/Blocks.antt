@@ -21,7 +21,7 @@ use Rattle.g_mean.specs.Calls.{sizes_of}
 use Rattle.g_build_keeps.proofs.Unary.{some-inj}
 use Rattle.g_build_keeps.proofs.Objects.{CharactersWithin, AreWithin}
 use Rattle.g_build_keeps.proofs.Induction.{ObjectsFit}
-use Rattle.g_build_laws.proofs.lemmas.Leaves.{order_rises}
+use Rattle.g_build_keeps.proofs.lemmas.Leaves.{order_rises}
 use Rattle.g_graph.specs.Plain.{shapes_of}
 
 -- ---- the same blocks

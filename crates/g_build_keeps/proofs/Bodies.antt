@@ -23,8 +23,8 @@ use Rattle.g_build_def.specs.Exits.{stmt_jumps, is_return, some_items, items_jum
 use Rattle.g_build_def.specs.Statements.{declared_made, stmt_made, items_made}
 use Rattle.g_build_def.specs.Functions.{end_value, straight_then, straight_made, jumps_begun}
 use Rattle.g_build_def.proofs.lemmas.LaterStatements.{stmt_later, declared_later, items_later}
-use Rattle.g_build_laws.proofs.lemmas.Exits.{MayJump}
-use Rattle.g_build_laws.proofs.lemmas.Bodies.{may_stay}
+use Rattle.g_build_keeps.proofs.lemmas.Exits.{MayJump}
+use Rattle.g_build_keeps.proofs.lemmas.Bodies.{may_stay}
 use Rattle.g_mean.specs.Data.{Datum, memory, input}
 use Rattle.g_mean.specs.Meaning.{Context, Outputs, read as read_origin, nodes_run}
 use Rattle.g_build_keeps.proofs.Readings.{Stay, IsSoundRun}

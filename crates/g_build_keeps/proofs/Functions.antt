@@ -27,7 +27,7 @@ use Rattle.g_build_def.specs.Writer.{Point, Built, bind, given}
 use Rattle.g_build_def.specs.Exits.{stmt_jumps, body_jumps}
 use Rattle.g_build_def.specs.Statements.{items_made}
 use Rattle.g_build_def.specs.Functions.{params_stored, start_of, straight_made, jumps_begun, jumping_body, straight_body, body_built, objects_made, body_made, lambda_made}
-use Rattle.g_build_laws.proofs.lemmas.Exits.{neither_left, neither_right}
+use Rattle.g_build_keeps.proofs.lemmas.Exits.{neither_left, neither_right}
 use Rattle.g_mean.specs.Data.{Datum, val, memory, input, on_memory, changed_at, taken}
 use Rattle.g_mean.specs.Data as graph_data
 use Rattle.g_mean.specs.Meaning.{Meaning, Context, Outputs, no_outputs, read as read_origin, region_meaning, nodes_run}

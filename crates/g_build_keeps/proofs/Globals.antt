@@ -17,7 +17,7 @@ use Rattle.c_mean.specs.Run.{global_address}
 use Rattle.g_graph.specs.WellFormed.{all_of}
 use Rattle.g_build_def.specs.Globals.{byte_at, bytes_from, links_in, global_made, globals_made}
 use Rattle.g_build_def.proofs.lemmas.Programs.{bytes_counted, bytes_same}
-use Rattle.g_build_laws.proofs.lemmas.Leaves.{bytes_below, order_rises}
+use Rattle.g_build_keeps.proofs.lemmas.Leaves.{bytes_below, order_rises}
 use Rattle.g_mean.specs.Calls as graph
 use Rattle.g_mean.specs.Calls.{delta_sizes, global_of, little_endian}
 use Rattle.g_mean.specs.LessDefined.{AreBytes, AreNarrow, AreSoundDeltas}

@@ -14,7 +14,7 @@ use Rattle.g_graph.specs.Plain.{nodes_of}
 use Rattle.g_build_def.specs.Writer.{Form, straight, jumping, Carried, Point, with_go_and_ret, Built, Extra, inside, Regions, regions_made, exchanged, choice_one_first, carried_origins}
 use Rattle.g_build_def.specs.Laws.{Later}
 use Rattle.g_build_def.proofs.lemmas.Later.{Keeps, form_renamed}
-use Rattle.g_build_laws.proofs.lemmas.Exits.{MayJump}
+use Rattle.g_build_keeps.proofs.lemmas.Exits.{MayJump}
 use Rattle.g_mean.specs.Data.{Datum, val}
 use Rattle.g_mean.specs.Meaning.{Context, Outputs, no_outputs, read as read_origin, nodes_run}
 use Rattle.g_build_keeps.proofs.Readings.{IsSoundRun}

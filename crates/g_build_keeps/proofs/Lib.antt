@@ -1,3 +1,7 @@
+mod Counted
+mod ExpressionNumbers
+mod StatementNumbers
+mod FunctionNumbers
 pub mod Examples
 mod Rows
 mod Functions
@@ -41,3 +45,16 @@ mod Blocks
 mod Starts
 mod Bodies
 mod Globals
+pub mod lemmas
+mod ProgramGraphs
+mod StartGraphs
+mod Stands
+mod Parts
+mod Operations
+mod PlaceGraphs
+mod ExpressionGraphs
+mod FormationLemmas
+mod Fits
+mod Once
+mod Outputs
+mod Agree

@@ -25,7 +25,7 @@ use Rattle.g_build_def.specs.Statements.{stmt_made}
 use Rattle.g_build_def.proofs.lemmas.Later.{Keeps, later_here, bind_later, repeat_later}
 use Rattle.g_build_def.proofs.lemmas.LaterExpressions.{const_later, expr_later, tested_later}
 use Rattle.g_build_def.proofs.lemmas.LaterStatements.{dropped_later, jump_ended_later, optional_later, step_later, again_later, turn_later, do_again_later, stmt_later}
-use Rattle.g_build_laws.proofs.lemmas.Exits.{MayJump, stmt_leaves}
+use Rattle.g_build_keeps.proofs.lemmas.Exits.{MayJump, stmt_leaves}
 use Rattle.g_mean.specs.Data.{Datum, val}
 use Rattle.g_mean.specs.Meaning.{Context, Outputs, no_outputs, read as read_origin, nodes_run}
 use Rattle.g_mean.proofs.lemmas.Equal.{exactly-compares}

@@ -17,7 +17,7 @@ use Rattle.g_graph.specs.Program.{same_bytes, name_index, main_name}
 use Rattle.g_graph.proofs.lemmas.Names.{bytes_equal}
 use Rattle.g_build_def.specs.Functions as construction
 use Rattle.g_build_def.specs.Functions.{graph, names}
-use Rattle.g_build_laws.specs.BuiltLaws.{WellTypedAreBuilt}
+use Rattle.g_build_keeps.specs.BuiltLaws.{WellTypedAreBuilt}
 use Rattle.g_mean.specs.Data.{Datum, memory, input}
 use Rattle.g_mean.specs.Calls as graph_calls
 use Rattle.g_mean.specs.Calls.{lambda_at, started, program_at}

@@ -25,7 +25,7 @@ use Rattle.g_build_def.specs.Statements.{items_made, segments_made}
 use Rattle.g_build_def.specs.Switch.{is_jump, ends_with_jump, ends_segment, next_segment, some_segment_has_several, Target, group_made, segments_with}
 use Rattle.g_build_def.proofs.lemmas.Later.{Keeps, later_here, bind_later}
 use Rattle.g_build_def.proofs.lemmas.LaterStatements.{group_later, unless_left_later, items_later}
-use Rattle.g_build_laws.proofs.lemmas.Exits.{MayJump, jump_left, jump_right, items_leave}
+use Rattle.g_build_keeps.proofs.lemmas.Exits.{MayJump, jump_left, jump_right, items_leave}
 use Rattle.g_mean.specs.Data.{Datum}
 use Rattle.g_mean.specs.Meaning.{Context, Outputs, no_outputs, read as read_origin}
 use Rattle.g_build_keeps.specs.Exits.{Allows}

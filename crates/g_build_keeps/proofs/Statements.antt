@@ -24,7 +24,7 @@ use Rattle.g_build_def.specs.Statements.{stmt_made, items_made}
 use Rattle.g_build_def.proofs.lemmas.Later.{Keeps, later_here}
 use Rattle.g_build_def.proofs.lemmas.LaterExpressions.{expr_later, tested_later}
 use Rattle.g_build_def.proofs.lemmas.LaterStatements.{stmt_later, items_later}
-use Rattle.g_build_laws.proofs.lemmas.Exits.{MayJump, jump_left, jump_right, stmt_leaves}
+use Rattle.g_build_keeps.proofs.lemmas.Exits.{MayJump, jump_left, jump_right, stmt_leaves}
 use Rattle.g_mean.specs.Data.{Datum, val}
 use Rattle.g_mean.specs.Meaning.{Context, Outputs, no_outputs, read as read_origin, nodes_run}
 use Rattle.g_build_keeps.specs.Exits.{Allows}

@@ -23,7 +23,7 @@ use Rattle.g_build_def.specs.Laws.{Later}
 use Rattle.g_build_def.proofs.lemmas.Later.{later_here, choices_later, EachKeeps}
 use Rattle.g_build_def.proofs.lemmas.LaterExpressions.{expr_later}
 use Rattle.g_build_def.proofs.lemmas.LaterStatements.{segment_later, with_from as in_scope, from_later, each_append, segments_later}
-use Rattle.g_build_laws.proofs.lemmas.Exits.{MayJump, groups_break}
+use Rattle.g_build_keeps.proofs.lemmas.Exits.{MayJump, groups_break}
 use Rattle.g_mean.specs.Data.{Datum}
 use Rattle.g_mean.specs.Meaning.{Context, Outputs, no_outputs, read as read_origin, nodes_run}
 use Rattle.g_build_keeps.specs.Exits.{Allows}

@@ -19,7 +19,7 @@ use Rattle.g_graph.specs.declared.op.Origin.{Origin}
 use Rattle.g_build_def.specs.Writer.{jumping, Point, with_go, Built, nothing, bind}
 use Rattle.g_build_def.specs.Operations.{const_made, bin_made}
 use Rattle.g_build_def.specs.Jumps.{jump_ended, break_ended}
-use Rattle.g_build_laws.proofs.lemmas.Exits.{MayJump}
+use Rattle.g_build_keeps.proofs.lemmas.Exits.{MayJump}
 use Rattle.g_mean.specs.Data.{Datum, val}
 use Rattle.g_mean.specs.Meaning.{Context, Outputs, read as read_origin}
 use Rattle.g_build_keeps.proofs.Readings.{IsSoundRun}

@@ -33,5 +33,5 @@ pub fn construction_keeps_programs()
     ensures { ConstructionKeepsPrograms }
 {
     c_type::laws::leaves_are_in_order();
-    g_build_laws::laws::well_typed_are_built();
+    crate::graph_laws::well_typed_are_built();
 }

@@ -2,7 +2,7 @@
 use Rattle.std.proofs.Common.{◌≡◌, ℕ, zero, suc, ◌+◌, ◌^◌, true, false, List, [], ◌∷◌, map, replicate, length, slice_get, Some, None, refl, sym, ap, subst, ◌∙◌}
 use Rattle.std.proofs.lemmas.Option.{same_Some}
 use Rattle.std.proofs.lemmas.Bool.{leb-true}
-use Rattle.c_lex.specs.limits.Limits.{counted_bytes, most_global_bytes}
+use Rattle.base.specs.Limits.{counted_bytes, most_global_bytes}
 use Rattle.val_core.specs.declared.operation.Op2.TheVariants.{Add}
 use Rattle.val_core.specs.declared.operation.Op1.TheVariants.{Zext8}
 use Rattle.val_core.specs.declared.leaf.Leaf.{Leaf}

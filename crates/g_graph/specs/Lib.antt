@@ -12,5 +12,3 @@ pub mod Splice
 pub mod Nodes
 pub mod Lists
 pub mod Program
--- What is passed on of the libraries below.
-pub use Rattle.val_core.specs as val_core

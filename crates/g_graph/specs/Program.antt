@@ -1,7 +1,7 @@
 -- What an image asks of the globals and names of a program, and of the lambdas that are put in it.
 use Rattle.std.specs.Prelude.{◌≡◌, ◌≤◌, ℕ, suc, ◌==◌, nat_lt, if◌then◌else◌, Bool, true, false, ◌&&◌, IsTrue, List, [], ◌∷◌, map, length, Option, None, Some, option_map, slice_get, slice_set}
 use Rattle.std.specs.List.{sum_by}
-use Rattle.c_lex.specs.limits.Limits.{most_functions, most_parameters, counted_bytes, most_object_bytes, most_global_bytes, most_lambda_values, most_program_values}
+use Rattle.base.specs.Limits.{most_functions, most_parameters, counted_bytes, most_object_bytes, most_global_bytes, most_lambda_values, most_program_values}
 use Rattle.val_core.specs.declared.leaf.Leaf.{Leaf}
 use Rattle.g_graph.specs.declared.link.Link.{Link}
 use Rattle.g_graph.specs.Plain.{PlainObject, PlainLambda, PlainDelta, PlainOmega}

@@ -3,7 +3,7 @@
 ghost use Rattle.std.specs.Prelude.{◌≡◌, IfOk};
 
 use crate::{Lambda, Node, Object, Region};
-use no_memory::NoMemory;
+use base::NoMemory;
 use smallvec::SmallVec;
 use std::alloc::Global;
 

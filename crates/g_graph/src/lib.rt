@@ -4,9 +4,6 @@
 //! Always: an `Optimised` holds a well-formed lambda.
 #![tactic(auto)]
 
-// What is passed on of the libraries below.
-pub use val_core;
-
 mod can_change;
 mod change;
 mod checking;

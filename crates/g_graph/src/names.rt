@@ -3,7 +3,7 @@
 ghost use Rattle.std.specs.Prelude.{◌≡◌};
 ghost use Rattle.g_graph.specs.Program.{main_name, same_bytes, name_index};
 
-use c_lex::Name;
+use base::Name;
 
 fn same_bytes(xs: &[u8], ys: &[u8]) -> bool
     ensures { result ≡ same_bytes xs.now ys.now }

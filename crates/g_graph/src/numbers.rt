@@ -4,7 +4,7 @@ ghost use Rattle.std.specs.Prelude.{◌≡◌, ◌++◌, IfOk, OnOk};
 ghost use Rattle.g_graph.specs.Ids.{region_ids, node_ids};
 
 use crate::{Lambda, Node, Region};
-use no_memory::NoMemory;
+use base::NoMemory;
 use std::alloc::Global;
 
 /// The numbers of the lambda's nodes in pre-order: a node before the nodes of its regions. It takes

@@ -1,7 +1,7 @@
 //! The types of globals and of programs.
 
 use crate::{Lambda, Link};
-use c_lex::Name;
+use base::Name;
 use std::marker::Model;
 use val_core::Leaf;
 

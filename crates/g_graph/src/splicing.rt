@@ -12,7 +12,7 @@ use crate::redirect::{
     ArgsToInputs, OutputsToResults, redirect_nodes, redirect_origins, redirect_region,
 };
 use crate::{Lambda, Node, Origin, Region};
-use no_memory::NoMemory;
+use base::NoMemory;
 use std::alloc::Global;
 use std::mem;
 

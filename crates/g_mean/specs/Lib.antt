@@ -13,5 +13,3 @@ pub mod Moves
 pub mod Holds
 pub mod Splices
 pub mod Kinds
--- What is passed on of the libraries below.
-pub use Rattle.g_graph.specs as g_graph

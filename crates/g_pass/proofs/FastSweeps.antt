@@ -12,18 +12,18 @@ use Rattle.g_graph.specs.WellFormed.{IsWellFormed}
 use Rattle.g_arena_def.specs.Flat.{Flat}
 use Rattle.g_pass_def.specs.Sweep.{sweep, in_order}
 use Rattle.r_sweep_def.specs.Swept.{Logged, Change, tried_by, swept_by}
-use Rattle.r_dne_sweep.specs.r_sweep_laws.Fast.{HasSwept}
+use Rattle.r_sweep.specs.Fast.{HasSwept}
 use Rattle.g_pass.specs.Fast.{is_in_arena, RulesKeep, change_of, swept_with, swept_each, AreInArena, AreSwept}
 use Rattle.g_pass.specs.Sweep.{applies, applied, rules}
-use Rattle.r_fold_walk.specs.r_fold.Laws.{FoldIsAStep}
-use Rattle.r_cne_sweep.specs.r_cne.Laws.{CneIsAStep}
-use Rattle.r_dne_sweep.specs.r_dne.Laws.{DneIsAStep}
-use Rattle.r_inv_sweep.specs.r_inv.Laws.{InvIsAStep}
-use Rattle.r_push_walk.specs.r_push.Laws.{PshIsAStep}
-use Rattle.r_pull_walk.specs.r_pull.Laws.{PllIsAStep}
-use Rattle.r_unroll_walk.specs.r_unroll.Laws.{UrlIsAStep}
-use Rattle.r_invert_walk.specs.r_invert.Laws.{IvtIsAStep}
-use Rattle.r_inline_walk.specs.r_inline_laws.Callees.{inline_change}
+use Rattle.r_fold.specs.Laws.{FoldIsAStep}
+use Rattle.r_cne.specs.Laws.{CneIsAStep}
+use Rattle.r_dne.specs.Laws.{DneIsAStep}
+use Rattle.r_inv.specs.Laws.{InvIsAStep}
+use Rattle.r_push.specs.Laws.{PshIsAStep}
+use Rattle.r_pull.specs.Laws.{PllIsAStep}
+use Rattle.r_unroll.specs.Laws.{UrlIsAStep}
+use Rattle.r_invert.specs.Laws.{IvtIsAStep}
+use Rattle.r_inline.specs.Callees.{inline_change}
 use Rattle.g_pass.proofs.Folds.{sweeps_are_folds, inline_sweeps_are_folds}
 
 abbrev pub logged : PlainLambda → List Step → Logged

@@ -7,8 +7,8 @@ use Rattle.g_graph.specs.declared.steps.Rule.TheVariants.{Fold, Cne, Dne, Inv, P
 use Rattle.g_graph.specs.declared.steps.Step.{Step}
 use Rattle.g_graph.specs.Plain.{PlainLambda}
 use Rattle.g_graph.specs.Ids.{region_ids}
-use Rattle.r_inline_walk.specs.r_inline.Rule.{iln}
-use Rattle.r_inline_walk.specs.r_inline_laws.Callees.{inlined_at, inline_change}
+use Rattle.r_inline.specs.Rule.{iln}
+use Rattle.r_inline.specs.Callees.{inlined_at, inline_change}
 use Rattle.r_sweep_def.specs.Swept.{Logged, tried_by, swept_by}
 use Rattle.g_pass_def.specs.Sweep.{Swept, stepped, tried, in_order, sweep}
 use Rattle.g_pass.specs.Sweep.{applies, applied, step, rules}

@@ -4,9 +4,9 @@ use Rattle.std.proofs.Common.{◌≡◌, ◌≢◌, ℕ, true, false, List, Opti
 use Rattle.g_graph.specs.Plain.{PlainLambda}
 use Rattle.g_graph.specs.declared.steps.Rule.{Rule}
 use Rattle.g_graph.specs.declared.steps.Rule.TheVariants.{Fold, Cne, Dne, Inv, Push, Pull, Invert, Unroll, Inline}
-use Rattle.r_inline_walk.specs.r_inline.Rule as inline_rule
-use Rattle.r_inline_walk.specs.r_inline.Called.{called_at}
-use Rattle.r_inline_walk.specs.r_inline_laws.Callees.{numbered, inlined_at}
+use Rattle.r_inline.specs.Rule as inline_rule
+use Rattle.r_inline.specs.Called.{called_at}
+use Rattle.r_inline.specs.Callees.{numbered, inlined_at}
 use Rattle.g_pass.specs.Sweep.{applies, applied, step}
 
 -- ---- the callee

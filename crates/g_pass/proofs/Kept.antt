@@ -2,7 +2,7 @@
 use Rattle.std.proofs.Common.{◌≡◌, List, [], Result, Ok, Err, OnOk, OnErr, sym, subst}
 use Rattle.g_graph.specs.Plain.{PlainLambda}
 use Rattle.g_graph.specs.WellFormed.{IsWellFormed}
-use Rattle.g_pass_def.specs.r_edit.Steps.{MayStandFor}
+use Rattle.r_edit.specs.Steps.{MayStandFor}
 
 -- a call of a rule that looks at its lambda alone makes a step, or leaves the lambda as it was
 pub step_keeps : {A B : Type 0} (x : Result A B) (l k : PlainLambda) → IsWellFormed l → OnOk x ((held : List PlainLambda) → MayStandFor held l k) → OnErr x (k ≡ l) → IsWellFormed k

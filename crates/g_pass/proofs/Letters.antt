@@ -3,7 +3,7 @@ use Rattle.std.proofs.Common.{◌≡◌, ◌<◌, ℕ, ◌==◌, List, ◌∷◌
 use Rattle.std.specs.Prelude.{if◌then◌else◌}
 use Rattle.g_graph.specs.declared.steps.Rule.{Rule}
 use Rattle.g_graph.specs.declared.steps.Rule.TheVariants.{Fold, Cne, Dne, Inv, Push, Pull, Invert, Unroll, Inline}
-use Rattle.r_names.specs.Names.{rule_name, rule_place, all_rules}
+use Rattle.r_rule.specs.Names.{rule_name, rule_place, all_rules}
 
 -- the rule whose name begins with these letters; those of no name give any rule
 rule_by : ℕ → ℕ → Rule

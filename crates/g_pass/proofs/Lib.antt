@@ -7,3 +7,13 @@ mod Folds
 mod FastSweeps
 mod Kept
 mod Placed
+mod Steps
+mod InlinedSteps
+mod Twice
+mod Sized
+mod Pulled
+mod Unrolled
+mod Inverted
+mod Numbers
+mod SweepSteps
+mod Given

@@ -4,7 +4,7 @@ use Rattle.std.specs.Prelude.{codes, slice_index_or}
 use Rattle.std.proofs.lemmas.List.{append_cancel_left}
 use Rattle.g_graph.specs.declared.steps.Rule.{Rule}
 use Rattle.g_graph.specs.declared.steps.Rule.TheVariants.{Fold, Cne, Dne, Inv, Push, Pull, Invert, Unroll, Inline}
-use Rattle.r_names.specs.Names.{rule_name}
+use Rattle.r_rule.specs.Names.{rule_name}
 use Rattle.g_pass.specs.Recipe.{later_text, recipe_text, OneRecipe}
 use Rattle.g_pass.proofs.Letters.{same_rule}
 use Rattle.g_pass.proofs.Texts.{rest_is}

@@ -19,17 +19,17 @@ use Rattle.g_mean.specs.Copies.{IsAmong}
 use Rattle.g_mean.proofs.lemmas.Copies.{among-left, among-right}
 use Rattle.g_mean.proofs.lemmas.Edits.{distinct-split}
 use Rattle.g_mean.proofs.lemmas.Holds.{id-among, distinct-apart}
-use Rattle.r_dne_sweep.proofs.of_g_arena_laws.lemmas.Regions.{holder_changed}
-use Rattle.r_push_walk.specs.r_walk_def.Context.{joined_regions, ChangesOnlyAt}
-use Rattle.r_fold_walk.proofs.of_r_walk_laws.lemmas.Contexts.{body_context, inner_context, whole_part}
-use Rattle.r_fold_walk.proofs.of_r_walk_laws.lemmas.Local.{not_found, ids_in}
-use Rattle.r_fold_walk.specs.r_fold.Rule.{folding, folded, fold_here}
-use Rattle.r_cne_sweep.specs.r_cne.Rule.{earlier, cne_here}
-use Rattle.r_dne_sweep.specs.r_dne.Rule.{eliminated, dne_here}
-use Rattle.r_inv_sweep.specs.r_inv.Rule.{moved, inv_here}
-use Rattle.r_invert_walk.specs.r_invert.Rule.{in_place, ivt_here}
-use Rattle.r_unroll_walk.specs.r_unroll.Rule.{node_unrolled, url_here}
-use Rattle.g_pass_def.specs.r_edit.Uses.{uses_replaced}
+use Rattle.r_sweep.proofs.lemmas.Regions.{holder_changed}
+use Rattle.r_walk.specs.Context.{joined_regions, ChangesOnlyAt}
+use Rattle.r_walk.proofs.lemmas.Contexts.{body_context, inner_context, whole_part}
+use Rattle.r_walk.proofs.lemmas.Local.{not_found, ids_in}
+use Rattle.r_fold.specs.Rule.{folding, folded, fold_here}
+use Rattle.r_cne.specs.Rule.{earlier, cne_here}
+use Rattle.r_dne.specs.Rule.{eliminated, dne_here}
+use Rattle.r_inv.specs.Rule.{moved, inv_here}
+use Rattle.r_invert.specs.Rule.{in_place, ivt_here}
+use Rattle.r_unroll.specs.Rule.{node_unrolled, url_here}
+use Rattle.r_edit.specs.Uses.{uses_replaced}
 use Rattle.g_pass.specs.Placed.{change_in, is_loop, loop_at, IsPlaced}
 use Rattle.g_pass.specs.Sweep.{applied, step}
 

@@ -6,11 +6,11 @@ use Rattle.g_graph.specs.declared.steps.Rule.{Rule}
 use Rattle.g_graph.specs.declared.steps.Rule.TheVariants.{Fold, Cne, Dne, Inv, Invert, Unroll}
 use Rattle.g_graph.specs.Nodes.{node_at}
 use Rattle.g_graph.specs.Plain.{RegionTree, nodes_in, op_of}
-use Rattle.r_push_walk.specs.r_walk_def.Context.{IsContext}
-use Rattle.r_fold_walk.specs.r_fold.Rule.{fold_here}
-use Rattle.r_cne_sweep.specs.r_cne.Rule.{cne_here}
-use Rattle.r_dne_sweep.specs.r_dne.Rule.{dne_here}
-use Rattle.r_inv_sweep.specs.r_inv.Rule.{inv_here}
+use Rattle.r_walk.specs.Context.{IsContext}
+use Rattle.r_fold.specs.Rule.{fold_here}
+use Rattle.r_cne.specs.Rule.{cne_here}
+use Rattle.r_dne.specs.Rule.{dne_here}
+use Rattle.r_inv.specs.Rule.{inv_here}
 
 abbrev pub is_loop : Op → Bool
 is_loop Theta = true

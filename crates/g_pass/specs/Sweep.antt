@@ -4,16 +4,16 @@ use Rattle.g_graph.specs.declared.steps.Rule.{Rule}
 use Rattle.g_graph.specs.declared.steps.Rule.TheVariants.{Fold, Cne, Dne, Inv, Push, Pull, Invert, Unroll, Inline}
 use Rattle.g_graph.specs.Plain.{PlainLambda}
 use Rattle.g_pass_def.specs.Sweep.{RuleTable}
-use Rattle.r_fold_walk.specs.r_fold.Rule as fold_rule
-use Rattle.r_cne_sweep.specs.r_cne.Rule as cne_rule
-use Rattle.r_dne_sweep.specs.r_dne.Rule as dne_rule
-use Rattle.r_inv_sweep.specs.r_inv.Rule as inv_rule
-use Rattle.r_push_walk.specs.r_push.Rule as push_rule
-use Rattle.r_pull_walk.specs.r_pull.Rule as pull_rule
-use Rattle.r_unroll_walk.specs.r_unroll.Rule as unroll_rule
-use Rattle.r_invert_walk.specs.r_invert.Rule as invert_rule
-use Rattle.r_inline_walk.specs.r_inline.Rule as inline_rule
-use Rattle.r_inline_walk.specs.r_inline_laws.Callees.{inlined_at}
+use Rattle.r_fold.specs.Rule as fold_rule
+use Rattle.r_cne.specs.Rule as cne_rule
+use Rattle.r_dne.specs.Rule as dne_rule
+use Rattle.r_inv.specs.Rule as inv_rule
+use Rattle.r_push.specs.Rule as push_rule
+use Rattle.r_pull.specs.Rule as pull_rule
+use Rattle.r_unroll.specs.Rule as unroll_rule
+use Rattle.r_invert.specs.Rule as invert_rule
+use Rattle.r_inline.specs.Rule as inline_rule
+use Rattle.r_inline.specs.Callees.{inlined_at}
 
 -- Whether a rule that looks at its lambda alone applies at a node, and what it makes of the lambda there. Inlining looks
 -- at callees too.

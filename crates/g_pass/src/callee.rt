@@ -4,8 +4,8 @@ ghost use Rattle.std.specs.Prelude.{◌≡◌, map, option_copied, IfSome, IsTru
 ghost use Rattle.std.specs.Arc.{arc_value};
 ghost use Rattle.g_graph.specs.WellFormed.{IsWellFormed};
 ghost use Rattle.g_pass_def.specs.Answers.{lambdas_of};
-ghost use Rattle.r_inline_walk.specs.r_inline.Rule as inline_rule;
-ghost use Rattle.r_inline_walk.specs.r_inline_laws.Callees.{numbered, inlined_at};
+ghost use Rattle.r_inline.specs.Rule as inline_rule;
+ghost use Rattle.r_inline.specs.Callees.{numbered, inlined_at};
 
 use g_graph::{Lambda, Optimised};
 use std::sync::Arc;
@@ -24,8 +24,8 @@ pub fn inlined_at<'a>(
     ensures applies { IfSome result (λ callee.
         IsTrue (inline_rule.applies lambda.now node callee.now)) }
 {
-    let callee = numbered(callees, r_inline_walk::r_inline::called_at(lambda, node)?)?;
-    if r_inline_walk::r_inline::applies(lambda, node, callee) {
+    let callee = numbered(callees, r_inline::called_at(lambda, node)?)?;
+    if r_inline::applies(lambda, node, callee) {
         Some(callee)
     } else {
         None

@@ -11,18 +11,17 @@ ghost use Rattle.g_graph.specs.declared.steps.Step.{Step};
 ghost use Rattle.g_arena_def.specs.Flat.{StandsFor};
 ghost use Rattle.g_pass_def.specs.Answers.{lambdas_of};
 ghost use Rattle.g_pass_def.specs.Sweep.{in_order, sweep};
-ghost use Rattle.r_dne_sweep.specs.r_sweep_laws.Fast.{HasSwept, IsWhole};
+ghost use Rattle.r_sweep.specs.Fast.{HasSwept, IsWhole};
 ghost use Rattle.g_pass.specs.Fast.{change_of, is_in_arena, swept_each, AreInArena, AreSwept, RulesKeep};
 ghost use Rattle.g_pass.specs.Sweep.{rules};
 
+use base::{NoMemory, Steps};
+use g_arena::Arena;
 use g_graph::{Lambda, Optimised, Rule, Step};
-use no_memory::NoMemory;
-use r_cne_sweep::g_arena::Arena;
 use std::alloc::Global;
 use std::marker::Brand;
 use std::sync::Arc;
 use std::sync::ledger::{Blank, Ledger};
-use steps::Steps;
 
 /// Whether a sweep of the rule goes over an arena.
 pub const fn is_in_arena(rule: Rule) -> bool
@@ -161,12 +160,12 @@ fn walked(
 {
     rules_keep();
     match rule {
-        Rule::Fold => r_fold_walk::sweep_fast(alloc, lambda, log),
-        Rule::Push => r_push_walk::sweep_fast(alloc, lambda, log),
-        Rule::Pull => r_pull_walk::sweep_fast(alloc, lambda, log),
-        Rule::Unroll => r_unroll_walk::sweep_fast(alloc, lambda, log),
-        Rule::Invert => r_invert_walk::sweep_fast(alloc, lambda, log),
-        Rule::Inline => r_inline_walk::sweep_fast(alloc, lambda, callees, log),
+        Rule::Fold => r_fold::sweep_fast(alloc, lambda, log),
+        Rule::Push => r_push::sweep_fast(alloc, lambda, log),
+        Rule::Pull => r_pull::sweep_fast(alloc, lambda, log),
+        Rule::Unroll => r_unroll::sweep_fast(alloc, lambda, log),
+        Rule::Invert => r_invert::sweep_fast(alloc, lambda, log),
+        Rule::Inline => r_inline::sweep_fast(alloc, lambda, callees, log),
         _ => unreachable!(),
     }
 }
@@ -213,9 +212,9 @@ fn sweep_arena<L: Ledger>(
         arena.new log.new.items) }
 {
     match rule {
-        Rule::Cne => r_cne_sweep::sweep_fast(alloc, arena, log, looks),
-        Rule::Dne => r_dne_sweep::sweep_fast(alloc, arena, log, looks),
-        Rule::Inv => r_inv_sweep::sweep_fast(alloc, arena, log, looks),
+        Rule::Cne => r_cne::sweep_fast(alloc, arena, log, looks),
+        Rule::Dne => r_dne::sweep_fast(alloc, arena, log, looks),
+        Rule::Inv => r_inv::sweep_fast(alloc, arena, log, looks),
         _ => unreachable!(),
     }
 }
@@ -224,12 +223,12 @@ fn sweep_arena<L: Ledger>(
 fn rules_keep()
     ensures { RulesKeep }
 {
-    r_fold_walk::r_fold::laws::fold_keeps_meaning();
-    r_cne_sweep::r_cne::laws::cne_keeps_meaning();
-    r_dne_sweep::r_dne::laws::dne_keeps_meaning();
-    r_inv_sweep::r_inv::laws::inv_keeps_meaning();
-    r_push_walk::r_push::laws::psh_keeps_meaning();
-    r_pull_walk::r_pull::laws::pll_keeps_meaning();
-    r_unroll_walk::r_unroll::laws::url_keeps_meaning();
-    r_invert_walk::r_invert::laws::ivt_keeps_meaning();
+    r_fold::laws::fold_keeps_meaning();
+    r_cne::laws::cne_keeps_meaning();
+    r_dne::laws::dne_keeps_meaning();
+    r_inv::laws::inv_keeps_meaning();
+    r_push::laws::psh_keeps_meaning();
+    r_pull::laws::pll_keeps_meaning();
+    r_unroll::laws::url_keeps_meaning();
+    r_invert::laws::ivt_keeps_meaning();
 }

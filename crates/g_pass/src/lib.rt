@@ -4,25 +4,21 @@
 //! Always: out of memory, a swept lambda is the one after the logged steps.
 #![tactic(auto)]
 
-// What is passed on of the libraries below.
-pub use r_cne_sweep::r_cne;
-pub use r_dne_sweep::r_dne;
-pub use r_fold_walk::r_fold;
-pub use r_inline_walk::r_inline;
-pub use r_invert_walk::r_invert;
-pub use r_pull_walk::r_pull;
-pub use r_push_walk::r_push;
-pub use r_unroll_walk::r_unroll;
-
 mod callee;
 mod fast;
 pub mod laws;
+pub mod meaning_laws;
 mod names;
 mod recipe;
+mod replay;
+mod replayed_sweeps;
 mod rule_step;
 mod sites;
+pub mod step_laws;
 mod sweeps;
 
 pub use recipe::Recipe;
+pub use replay::replayed;
+pub use replayed_sweeps::{SweepCount, sweep_counts};
 pub use rule_step::step;
 pub use sweeps::{optimise, sweep};

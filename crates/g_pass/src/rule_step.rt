@@ -10,8 +10,8 @@ ghost use Rattle.g_pass_def.specs.Sweep.{tried};
 ghost use Rattle.g_pass.specs.Sweep.{applies, applied, is_backward, rules};
 
 use crate::callee::inlined_at;
+use base::NoMemory;
 use g_graph::{Lambda, Optimised, Rule, Step};
-use no_memory::NoMemory;
 use std::alloc::Global;
 use std::sync::Arc;
 
@@ -27,14 +27,14 @@ fn applies(rule: Rule, lambda: &Lambda, node: u32) -> bool
     ensures { result ≡ applies rule lambda.now node }
 {
     match rule {
-        Rule::Fold => r_fold_walk::r_fold::applies(lambda, node),
-        Rule::Cne => r_cne_sweep::r_cne::applies(lambda, node),
-        Rule::Dne => r_dne_sweep::r_dne::applies(lambda, node),
-        Rule::Inv => r_inv_sweep::r_inv::applies(lambda, node),
-        Rule::Push => r_push_walk::r_push::applies(lambda, node),
-        Rule::Pull => r_pull_walk::r_pull::applies(lambda, node),
-        Rule::Unroll => r_unroll_walk::r_unroll::applies(lambda, node),
-        Rule::Invert => r_invert_walk::r_invert::applies(lambda, node),
+        Rule::Fold => r_fold::applies(lambda, node),
+        Rule::Cne => r_cne::applies(lambda, node),
+        Rule::Dne => r_dne::applies(lambda, node),
+        Rule::Inv => r_inv::applies(lambda, node),
+        Rule::Push => r_push::applies(lambda, node),
+        Rule::Pull => r_pull::applies(lambda, node),
+        Rule::Unroll => r_unroll::applies(lambda, node),
+        Rule::Invert => r_invert::applies(lambda, node),
         Rule::Inline => false,
     }
 }
@@ -48,17 +48,17 @@ fn apply(alloc: Global, rule: Rule, lambda: &mut Lambda, node: u32) -> Result<()
     ensures err { OnErr result (lambda.new ≡ lambda.old) }
 {
     match rule {
-        Rule::Fold => r_fold_walk::r_fold::apply(alloc, lambda, node),
+        Rule::Fold => r_fold::apply(alloc, lambda, node),
         Rule::Cne => {
-            r_cne_sweep::r_cne::apply(lambda, node);
+            r_cne::apply(lambda, node);
             Ok(())
         }
-        Rule::Dne => r_dne_sweep::r_dne::apply(alloc, lambda, node),
-        Rule::Inv => r_inv_sweep::r_inv::apply(alloc, lambda, node),
-        Rule::Push => r_push_walk::r_push::apply(alloc, lambda, node),
-        Rule::Pull => r_pull_walk::r_pull::apply(alloc, lambda, node),
-        Rule::Unroll => r_unroll_walk::r_unroll::apply(alloc, lambda, node),
-        Rule::Invert => r_invert_walk::r_invert::apply(alloc, lambda, node),
+        Rule::Dne => r_dne::apply(alloc, lambda, node),
+        Rule::Inv => r_inv::apply(alloc, lambda, node),
+        Rule::Push => r_push::apply(alloc, lambda, node),
+        Rule::Pull => r_pull::apply(alloc, lambda, node),
+        Rule::Unroll => r_unroll::apply(alloc, lambda, node),
+        Rule::Invert => r_invert::apply(alloc, lambda, node),
         Rule::Inline => Ok(()),
     }
 }
@@ -99,7 +99,7 @@ fn step_inline(
 {
     match inlined_at(lambda, node, callees) {
         Some(callee) => {
-            r_inline_walk::r_inline::apply(alloc, lambda, node, callee)?;
+            r_inline::apply(alloc, lambda, node, callee)?;
             Ok(true)
         }
         None => Ok(false),

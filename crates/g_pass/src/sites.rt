@@ -7,8 +7,8 @@ ghost use Rattle.g_graph.specs.WellFormed.{IsWellFormed};
 ghost use Rattle.g_pass.specs.Placed.{change_in, is_loop, loop_at, IsPlaced};
 ghost use Rattle.g_pass.specs.Sweep.{rules};
 
+use base::NoMemory;
 use g_graph::{Lambda, Node, Op, Region, Rule, node_at};
-use no_memory::NoMemory;
 use std::alloc::Global;
 
 // A region of a node: where the region that holds the node is listed, the node's index there, and
@@ -120,10 +120,10 @@ fn can_change(rule: Rule, region: &Region, node: u32) -> bool
     ensures { result ≡ is_some (change_in rule node region.now) }
 {
     match rule {
-        Rule::Fold => r_fold_walk::r_fold::can_fold(region, node),
-        Rule::Cne => r_cne_sweep::r_cne::can_replace(region, node),
-        Rule::Dne => r_dne_sweep::r_dne::can_eliminate(region, node),
-        Rule::Inv => r_inv_sweep::r_inv::can_redirect(region, node),
+        Rule::Fold => r_fold::can_fold(region, node),
+        Rule::Cne => r_cne::can_replace(region, node),
+        Rule::Dne => r_dne::can_eliminate(region, node),
+        Rule::Inv => r_inv::can_redirect(region, node),
         Rule::Invert | Rule::Unroll => has_loop(region, node),
         _ => true,
     }

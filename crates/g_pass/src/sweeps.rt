@@ -14,8 +14,8 @@ use crate::Recipe;
 use crate::fast::{arena_rules, swept_fast, swept_together};
 use crate::rule_step::{is_backward, try_step};
 use crate::sites::{Site, Sites, may_apply};
+use base::NoMemory;
 use g_graph::{Lambda, Optimised, Rule, Step, StepList, copy_of, ids, values};
-use no_memory::NoMemory;
 use std::alloc::Global;
 use std::sync::Arc;
 

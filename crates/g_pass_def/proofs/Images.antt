@@ -2,7 +2,7 @@
 use Rattle.std.proofs.Common.{◌≡◌, ◌<◌, ◌≤◌, ◌+◌, ◌*◌, ℕ, suc, List, [], ◌∷◌, length, Some, slice_get, get_or, refl, sym, subst, inl, inr, arith}
 use Rattle.std.specs.List.{sum_by, fold}
 use Rattle.std.proofs.lemmas.Option.{slice_get_within, slice_get-get_or}
-use Rattle.limits.specs.Limits.{counted_bytes, most_object_bytes, most_grown_values}
+use Rattle.base.specs.Limits.{counted_bytes, most_object_bytes, most_grown_values}
 use Rattle.g_graph.specs.Plain.{PlainLambda, PlainObject}
 use Rattle.g_graph.specs.Program.{lambda_values, IsFunctionWithinLimits}
 use Rattle.g_pass_def.specs.Kept.{KeepsShape}

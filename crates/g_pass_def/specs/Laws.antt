@@ -1,7 +1,7 @@
 -- Recipes keep lists of lambdas, over any table of rules whose steps are steps.
 use Rattle.std.specs.Prelude.{◌≡◌, ℕ, suc, ◌+◌, ◌*◌, ◌≤◌, Bool, true, if◌then◌else◌, List, [], ◌∷◌, map, Some, slice_get, slice_set, slice_index_or, Contains}
 use Rattle.std.specs.List.{sum_by, AllByRecursion}
-use Rattle.limits.specs.Limits.{most_functions, most_program_values, most_grown_values}
+use Rattle.base.specs.Limits.{most_functions, most_program_values, most_grown_values}
 use Rattle.g_graph.specs.declared.steps.Rule.{Rule}
 use Rattle.g_graph.specs.declared.steps.Step.{Step}
 use Rattle.g_graph.specs.Plain.{PlainLambda, PlainOmega, PlainOptimised}

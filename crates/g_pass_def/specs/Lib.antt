@@ -3,5 +3,3 @@ pub mod Answers
 pub mod Kept
 pub mod Replayed
 pub mod Laws
--- What is passed on of the libraries below.
-pub use Rattle.r_edit.specs as r_edit

@@ -5,8 +5,8 @@ ghost use Rattle.std.specs.List.Sorted.{IsStrictlyIncreasing};
 ghost use Rattle.call_order.specs.Units.{call_lists};
 ghost use Rattle.g_pass_order.specs.Calls.{callees, calls_of, node_calls, op_calls, region_calls, CallsAreKnown};
 
+use base::NoMemory;
 use g_graph::{Lambda, Node, Op, Region};
-use no_memory::NoMemory;
 use std::alloc::Global;
 
 fn push_op(op: Op, calls: &mut Vec<u32>) -> Result<(), NoMemory>

@@ -4,7 +4,7 @@ ghost use Rattle.std.specs.Prelude.{◌≡◌, ℕ, ◌<◌, length, Contains, I
 ghost use Rattle.call_order.specs.Units.{call_lists, AllKnown};
 ghost use Rattle.g_pass_order.specs.Calls.{outside, outside_calls};
 
-use no_memory::NoMemory;
+use base::NoMemory;
 use std::alloc::Global;
 
 // Of these functions those that are not of the unit of the one.

@@ -7,9 +7,9 @@ ghost use Rattle.g_pass_order.specs.Calls.{CallsAreKnown, IsOrder};
 use crate::answer::Order;
 use crate::calls::calls;
 use crate::deps::deps;
+use base::NoMemory;
 use call_order::{Units, units};
 use g_graph::Lambda;
-use no_memory::NoMemory;
 use std::alloc::Global;
 
 /// The order of these lambdas, of which each one that is called is there; there are fewer than

@@ -1,7 +1,7 @@
 -- The results of the lambdas as jobs are their answers.
 use Rattle.std.proofs.Common.{◌≡◌, ℕ, List, ap, ◌∙◌, arith}
 use Rattle.board_core.specs.Answers.{IsRanked}
-use Rattle.board_one.specs.Alone.{AreResults}
+use Rattle.board_core.specs.Alone.{AreResults}
 use Rattle.g_graph.specs.declared.steps.Rule.{Rule}
 use Rattle.g_graph.specs.Plain.{PlainLambda, PlainOptimised}
 use Rattle.g_pass_order.specs.Calls.{IsOrder}

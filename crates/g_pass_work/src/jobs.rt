@@ -5,10 +5,10 @@ ghost use Rattle.g_graph.specs.Plain.{PlainLambda};
 ghost use Rattle.g_graph.specs.Program.{lambda_values};
 ghost use Rattle.g_graph.specs.WellFormed.{IsWellFormed};
 
+use base::NoMemory;
 use board_core::Work;
 use g_graph::{Lambda, Optimised, copy_of};
 use g_pass::{Recipe, optimise};
-use no_memory::NoMemory;
 use std::alloc::Global;
 use std::marker::Model;
 use std::sync::Arc;

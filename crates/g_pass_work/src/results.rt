@@ -2,7 +2,7 @@
 
 ghost use Rattle.std.specs.Prelude.{◌≡◌, ◌≤◌, ◌<◌, ◌^◌, ℕ, Some, length, map, slice_get, IfOk};
 ghost use Rattle.std.specs.Arc.{arc_value};
-ghost use Rattle.limits.specs.Limits.{most_functions, most_workers};
+ghost use Rattle.base.specs.Limits.{most_functions, most_workers};
 ghost use Rattle.g_graph.specs.Lists.{IsComplete};
 ghost use Rattle.g_graph.specs.Plain.{PlainLambda};
 ghost use Rattle.g_graph.specs.Program.{lambda_values};
@@ -10,14 +10,13 @@ ghost use Rattle.g_pass_def.specs.Answers.{AreAnswers};
 ghost use Rattle.g_pass.specs.Sweep.{rules};
 
 use crate::jobs::LambdaJobs;
-use board_crew::do_jobs_by_workers;
-use board_one::do_jobs;
-use board_work::Gate;
+use base::NoMemory;
+use board_core::do_jobs;
+use board_work::{Gate, do_jobs_by_workers};
 use g_graph::{Lambda, Optimised};
 use g_pass::Recipe;
 use g_pass_order::laws::{complete_lists_know_calls, orders_are_unique};
 use g_pass_order::order;
-use no_memory::NoMemory;
 use std::alloc::Global;
 use std::sync::{Arc, Wait};
 use std::thread::Threads;

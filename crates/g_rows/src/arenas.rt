@@ -8,16 +8,15 @@ ghost use Rattle.g_graph.specs.WellFormed.{IsWellFormed};
 
 use crate::row::Row;
 use crate::rules::callees_of;
+use base::{NoMemory, Steps};
 use g_arena::Arena;
 use g_graph::{Lambda, Optimised, Rule, Step, check, copy_of, equal, ids};
 use g_pass::{step, sweep};
-use no_memory::NoMemory;
-use r_names::rule_name;
+use r_rule::rule_name;
 use std::alloc::Global;
 use std::marker::Brand;
 use std::sync::Arc;
 use std::sync::ledger::{Blank, Ledger};
-use steps::Steps;
 
 // A lambda that was put into an arena and taken out again.
 fn taken_out<L: Ledger>(alloc: Global, blank: Blank, lambda: Lambda) -> Result<Lambda, NoMemory>
@@ -131,7 +130,7 @@ fn are_left<L: Ledger>(
     let mut looks = Steps::<L>::new(blank);
     let mut arena = Arena::of(alloc, lambda, &mut looks)?;
     let mut log = Vec::new(alloc);
-    r_dne_sweep::sweep_fast(alloc, &mut arena, &mut log, &mut looks)?;
+    r_dne::sweep_fast(alloc, &mut arena, &mut log, &mut looks)?;
     let mut left = Vec::new(alloc);
     for node in nodes {
         left.push(arena.node(*node, &mut looks).is_some())?;

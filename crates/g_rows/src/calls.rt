@@ -10,9 +10,9 @@ use crate::drawings::draw;
 use crate::row::Row;
 use crate::rules::{at, recipe, rules, sweep_of};
 use crate::words::{kept_of, unary_of, value_of_one, value_of_two, word_of_two};
+use base::NoMemory;
 use g_graph::{Lambda, copy_of, equal, ids, values};
 use g_text::Named;
-use no_memory::NoMemory;
 
 /// Makes a call, a word and what is behind it.
 pub fn call(row: &mut Row, line: &str) -> Result<(), NoMemory> {

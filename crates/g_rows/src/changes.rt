@@ -4,9 +4,9 @@
 //! Gammas of one region around the body, one in another, the innermost of the number FIRST.
 
 use crate::row::Row;
+use base::NoMemory;
 use g_graph::{Lambda, Node, Op, Origin, Region, replace_uses, splice};
 use g_text::{Named, origin_named};
-use no_memory::NoMemory;
 use smallvec::SmallVec;
 use std::alloc::Global;
 use std::mem;

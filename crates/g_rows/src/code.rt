@@ -9,8 +9,8 @@ ghost use Rattle.s_linear.specs.Views.{line_of};
 
 use crate::row::Row;
 use a_place::place;
+use base::NoMemory;
 use g_graph::{Lambda, check, values};
-use no_memory::NoMemory;
 use s_linear::{Instr, Line, Linear};
 use s_sequence::sequence;
 use std::alloc::Global;

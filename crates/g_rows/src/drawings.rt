@@ -3,10 +3,8 @@
 //! where it stands so early.
 
 use crate::row::Row;
-use c_lex::Name;
-use g_dot::write_graph;
-use g_text::Named;
-use no_memory::NoMemory;
+use base::{Name, NoMemory};
+use g_text::{Named, write_graph};
 use std::alloc::Global;
 
 // The names of all lambdas, of which this one is the last.

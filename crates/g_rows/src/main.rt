@@ -24,7 +24,7 @@ mod words;
 
 use crate::calls::call;
 use crate::row::Row;
-use no_memory::NoMemory;
+use base::NoMemory;
 use std::rt::Env;
 use std::{io, mem};
 

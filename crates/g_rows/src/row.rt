@@ -1,8 +1,8 @@
 //! A row: its lambdas, what was said of them, and what is wanted.
 
+use base::NoMemory;
 use g_graph::Lambda;
 use g_text::{Named, ReadFault, read, write_lambda};
-use no_memory::NoMemory;
 use std::alloc::Global;
 use std::mem;
 

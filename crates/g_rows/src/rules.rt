@@ -3,11 +3,11 @@
 //! callees of a recipe are the lambdas before the last. `rules TEXT` says the sweeps of a recipe.
 
 use crate::row::Row;
+use base::NoMemory;
 use g_graph::{Lambda, Optimised, Rule, Step, StepList, check, copy_of, values};
 use g_pass::{Recipe, optimise, sweep};
 use g_text::Named;
-use no_memory::NoMemory;
-use r_names::{all_rules, rule_name};
+use r_rule::{all_rules, rule_name};
 use std::alloc::Global;
 use std::sync::Arc;
 

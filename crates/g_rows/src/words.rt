@@ -3,8 +3,8 @@
 //! in a block of 12 bytes, or `bad`.
 
 use crate::row::Row;
+use base::NoMemory;
 use g_text::{binary_named, unary_named};
-use no_memory::NoMemory;
 use val_core::{BlockName, Value, kept, op1, op2, value1, value2};
 
 fn words_of(text: &str) -> Option<u64> {

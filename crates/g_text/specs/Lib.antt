@@ -1,2 +1,4 @@
+pub mod Edges
+pub mod Drawing
 pub mod Ops
 pub mod Texts

@@ -6,9 +6,8 @@ ghost use Rattle.g_text.specs.Texts.{lambda_text};
 
 use crate::ops::{binary_named, unary_named};
 use crate::writing::write_lambda;
-use c_lex::Name;
+use base::{Name, NoMemory};
 use g_graph::{Kind, Lambda, Node, Object, Op, Origin, Region};
-use no_memory::NoMemory;
 use smallvec::SmallVec;
 use std::alloc::{AllocError, Global};
 use std::str::SplitWhitespace;

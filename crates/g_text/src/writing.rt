@@ -30,9 +30,9 @@ ghost use Rattle.g_text.specs.Texts.{
 };
 
 use crate::ops::{binary_name, unary_name};
+use base::NoMemory;
 use g_graph::{Kind, Lambda, Node, Object, Op, Origin, Region, op_outputs, output_kind, values};
 use itoa::Buffer;
-use no_memory::NoMemory;
 use val_core::Leaf;
 
 fn push(out: &mut Vec<u8>, text: &str) -> Result<(), NoMemory>

@@ -6,3 +6,15 @@ mod OneReading
 mod ReadSoFar
 mod Splits
 mod Words
+mod Parting
+mod OneFault
+mod Named
+mod Files
+mod Told
+mod CertifiedOrFaulty
+mod Stops
+mod FirstFaults
+mod Taken
+mod Made
+mod Followed
+mod RightOrFaulty

@@ -5,10 +5,10 @@ use Rattle.std.specs.List.{list_all, AllByRecursion, flat_map}
 use Rattle.std.specs.Str.{bytes_eq}
 use Rattle.std.proofs.lemmas.Bool.{cases_Bool, cases_eq, cases_lt}
 use Rattle.std.proofs.lemmas.Slice.Eq.{bytes_eq-Decides}
-use Rattle.limits.specs.Limits.{most_name_bytes}
+use Rattle.base.specs.Limits.{most_name_bytes}
 use Rattle.c_lex.specs.Classes.{is_letter, is_name_byte}
 use Rattle.c_lex.specs.Grammar.{IsIdentifier}
-use Rattle.r_names.specs.Names.{rule_name}
+use Rattle.r_rule.specs.Names.{rule_name}
 use Rattle.g_graph.specs.declared.steps.Rule.{Rule}
 use Rattle.g_graph.specs.declared.steps.Step.{Step}
 use Rattle.cc_watch.specs.Rows.{PlainRow}
@@ -17,8 +17,7 @@ use Rattle.log_check.specs.Log.{line_count, IsHead, IsRow, IsStep, LogOrBreak}
 use Rattle.log_check.specs.Lines.{head_line, head_row, step_line}
 use Rattle.log_check.specs.Pieces.{HasNo, named_text, pair_text}
 use Rattle.log_check.proofs.Splits.{not_same}
-use Rattle.log_check.proofs.Words.{is_head, no_head_rest, no_head_split, no_head_word, no_name_first, no_name_second, no_name_split}
-use Rattle.log_check.proofs.Words.{no_pair_first, no_pair_second, no_pair_split, no_step_node, no_step_rule, no_step_split}
+use Rattle.log_check.proofs.Words.{is_head, no_head_rest, no_head_split, no_head_word, no_name_first, no_name_second, no_name_split, no_pair_first, no_pair_second, no_pair_split, no_step_node, no_step_rule, no_step_split}
 use Rattle.log_check.proofs.LineEnds.{begins_with_head, begins_with_step, no_head_end, no_head_line, no_step_end, no_step_line}
 use Rattle.log_check.proofs.OneReading.{named, rule_at}
 use Rattle.log_check.proofs.ReadSoFar.{begins_with_row, row-long, row_is, shorter}

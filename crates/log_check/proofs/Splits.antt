@@ -9,7 +9,7 @@ use Rattle.c_lex.specs.Classes.{is_digit, is_name_byte}
 use Rattle.c_lex.specs.Grammar.{IsIdentifier}
 use Rattle.g_graph.specs.declared.steps.Rule.{Rule}
 use Rattle.g_graph.specs.declared.steps.Rule.TheVariants.{Fold, Cne, Dne, Inv, Push, Pull, Invert, Unroll, Inline}
-use Rattle.r_names.specs.Names.{rule_name}
+use Rattle.r_rule.specs.Names.{rule_name}
 use Rattle.log_check.specs.Pieces.{HasNo}
 
 -- ---- texts without a byte

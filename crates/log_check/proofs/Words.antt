@@ -1,7 +1,7 @@
 -- Lines that are none of a log's, by the word at which they differ from each.
 use Rattle.std.specs.Prelude.{codes, decimal}
 use Rattle.std.proofs.Common.{◌≡◌, ◌≢◌, ◌<◌, ◌^◌, ℕ, List, ◌∷◌, ◌++◌, refl, sym, ap, subst, ◌∙◌, append_assoc, arith}
-use Rattle.r_names.specs.Names.{rule_name}
+use Rattle.r_rule.specs.Names.{rule_name}
 use Rattle.g_graph.specs.declared.steps.Step.{Step}
 use Rattle.cc_watch.specs.Rows.{PlainRow}
 use Rattle.log_check.specs.Log.{IsHead}

@@ -2,3 +2,10 @@ pub mod Lines
 pub mod Log
 pub mod Pieces
 pub mod Reading
+pub mod Parting
+pub mod Faults
+pub mod Judgement
+pub mod JudgeLaws
+pub mod Right
+pub mod Fault
+pub mod ReplayLaws

@@ -19,10 +19,10 @@ pub enum ReadFault {
     NoMemory,
 }
 
-impl From<no_memory::NoMemory> for ReadFault {
+impl From<base::NoMemory> for ReadFault {
     ghost from_gives = { λ _ e. e ≡ NoMemory };
 
-    fn from(_e: no_memory::NoMemory) -> ReadFault {
+    fn from(_e: base::NoMemory) -> ReadFault {
         ReadFault::NoMemory
     }
 }

@@ -1,8 +1,7 @@
 //! Logs, and what each says of a function.
 
-use c_lex::Name;
+use base::{Name, NoMemory};
 use g_graph::Step;
-use no_memory::NoMemory;
 use std::alloc::Global;
 use std::marker::Model;
 

@@ -11,9 +11,8 @@ use crate::fault::ReadFault;
 use crate::line::{first_head, first_step};
 use crate::log::{Log, LogPart};
 use crate::row::Head;
-use c_lex::Name;
+use base::{Name, NoMemory};
 use g_graph::Step;
-use no_memory::NoMemory;
 use std::alloc::Global;
 
 /// How many bytes a log has at most.

@@ -2,10 +2,10 @@
 
 ghost use Rattle.std.specs.Prelude.{◌≡◌, ◌≢◌, ◌<◌, ◌≤◌, ◌^◌, ℕ, true, false, length, IfSome, IfNone};
 ghost use Rattle.std.specs.List.{list_all};
-ghost use Rattle.limits.specs.Limits.{most_name_bytes};
+ghost use Rattle.base.specs.Limits.{most_name_bytes};
 ghost use Rattle.c_lex.specs.Classes as class;
 ghost use Rattle.c_lex.specs.Grammar.{IsIdentifier};
-ghost use Rattle.r_names.specs.Names.{rule_name};
+ghost use Rattle.r_rule.specs.Names.{rule_name};
 ghost use Rattle.g_graph.specs.declared.steps.Rule.{Rule};
 ghost use Rattle.g_graph.specs.declared.steps.Step.{Step};
 ghost use Rattle.cc_watch.specs.Rows.{PlainRow};
@@ -15,9 +15,9 @@ ghost use Rattle.log_check.specs.Pieces.{named_text, pair_text};
 
 use crate::number::number;
 use crate::pieces::split_at_first;
+use base::MOST_NAME_BYTES;
 use g_graph::{Rule, Step};
-use limits::MOST_NAME_BYTES;
-use r_names::{all_rules, rule_name};
+use r_rule::{all_rules, rule_name};
 
 /// What a function line says.
 #[derive(Clone, Copy)]

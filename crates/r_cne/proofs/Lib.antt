@@ -2,3 +2,9 @@ mod Common
 mod Cne
 mod Same
 mod Examples
+mod Listed
+mod Keys
+mod Values
+mod After
+mod Visits
+mod Going

@@ -1,2 +1,5 @@
 pub mod Rule
 pub mod Laws
+pub mod Listed
+pub mod SweepLaws
+pub mod First

@@ -2,3 +2,14 @@ mod Unused
 mod Dne
 mod Examples
 mod Tests
+mod ListTests
+mod Listed
+mod Judged
+mod Gammas
+mod EntryJudged
+mod GammaSteps
+mod VariableGoes
+mod Loops
+mod Front
+mod Visits
+mod Going

@@ -10,8 +10,8 @@ use crate::gamma::{Entries, Exits};
 use crate::node::is_dead;
 use crate::plan::Plan;
 use crate::theta::Variables;
+use base::NoMemory;
 use g_graph::{Node, Op, Region, node_at};
-use no_memory::NoMemory;
 use r_edit::{all_stay, are_all_true, list_of};
 use std::alloc::Global;
 

@@ -10,8 +10,8 @@ ghost use Rattle.r_dne.specs.Plan.{carried_out};
 
 use crate::find::{can_eliminate, plan_at};
 use crate::plan::Plan;
+use base::NoMemory;
 use g_graph::{Lambda, Region};
-use no_memory::NoMemory;
 use r_edit::{RegionRule, keep_entries, keep_exits, keep_variables, remove_node};
 use std::alloc::Global;
 

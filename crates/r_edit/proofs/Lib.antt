@@ -1,3 +1,4 @@
 pub mod lemmas
+mod Found
 mod Gone
 mod Returns

@@ -1,3 +1,6 @@
+pub mod Numbering
+pub mod Fits
+pub mod Copies
 pub mod Lookup
 pub mod Uses
 pub mod Kept

@@ -1,3 +1,5 @@
+pub mod Numbering
+pub mod CopyLaws
 pub mod Lookup
 pub mod Uses
 pub mod Removal
@@ -14,5 +16,3 @@ pub mod Added
 pub mod Steps
 pub mod Origins
 pub mod Found
--- What is passed on of the libraries below.
-pub use Rattle.g_mean.specs as g_mean

@@ -1,6 +1,6 @@
 -- The number of values of a lambda after a change, computed and not counted anew.
 use Rattle.std.specs.Prelude.{◌≡◌, ◌⊎◌, ℕ, ◌+◌, ◌≤◌, nat_le, Bool, true, ◌||◌, length, Option, Some}
-use Rattle.limits.specs.Limits.{most_grown_values}
+use Rattle.base.specs.Limits.{most_grown_values}
 use Rattle.g_graph.specs.Plain.{RegionTree, args_of, PlainLambda}
 use Rattle.g_graph.specs.Signatures.{result_kinds}
 use Rattle.g_graph.specs.Count.{region_values}

@@ -4,8 +4,8 @@ ghost use Rattle.std.specs.Prelude.{◌≡◌, ◌≤◌, ◌^◌, IfOk};
 ghost use Rattle.g_graph.specs.declared.op.Origin.TheVariants.{Arg, Out};
 ghost use Rattle.r_edit.specs.Origins.{origins_from};
 
+use base::NoMemory;
 use g_graph::Origin;
-use no_memory::NoMemory;
 use std::alloc::Global;
 
 /// The first `count` arguments of a region.

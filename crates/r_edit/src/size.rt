@@ -3,7 +3,7 @@
 ghost use Rattle.std.specs.Prelude.{◌≡◌, ◌<◌, ◌^◌};
 ghost use Rattle.r_edit.specs.Size.{may_change_size};
 
-use limits::MOST_GROWN_VALUES;
+use base::MOST_GROWN_VALUES;
 
 /// Whether a lambda of so many values to which a change adds so many, and from which it takes so
 /// many away, does not become larger, or has at most `MOST_GROWN_VALUES` values afterwards.

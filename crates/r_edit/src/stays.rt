@@ -3,7 +3,7 @@
 ghost use Rattle.std.specs.Prelude.{◌≡◌, IfOk};
 ghost use Rattle.r_edit.specs.InPlace.{all_stay};
 
-use no_memory::NoMemory;
+use base::NoMemory;
 use std::alloc::Global;
 
 /// Which of the variables of a node stay.

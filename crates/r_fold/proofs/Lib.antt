@@ -7,3 +7,6 @@ mod Keeps
 mod Lists
 mod Examples
 mod Fewer
+mod Read
+mod SaidOf
+mod Parts

@@ -6,10 +6,10 @@ ghost use Rattle.g_graph.specs.Plain.{node, no_regions};
 ghost use Rattle.r_fold.specs.Plan.{with_word, with_input, carried_out};
 
 use crate::plan::Plan;
+use base::NoMemory;
 use g_graph::{
     Node, Op, Origin, OriginReplaced, Region, is_used, redirect_region, set_node, splice_region,
 };
-use no_memory::NoMemory;
 use smallvec::SmallVec;
 use std::alloc::Global;
 

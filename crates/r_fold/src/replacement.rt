@@ -8,8 +8,8 @@ ghost use Rattle.r_fold.specs.Rule.{chosen_region, chosen_place, theta_folded};
 ghost use Rattle.r_fold.specs.Plan.{planned, gamma_case, theta_case, replacement_case, runs_once, has_one_turn};
 
 use crate::plan::{Plan, is_word};
+use base::NoMemory;
 use g_graph::{ArgsToInputs, Node, Op, Origin, Region, constant, copy_region, redirect_region};
-use no_memory::NoMemory;
 use std::alloc::Global;
 
 /// Whether one of its regions comes instead of a node.

@@ -12,8 +12,8 @@ ghost use Rattle.r_fold.specs.Plan.{planned};
 use crate::edit::{can_carry_out, carry_out};
 use crate::plan::{Plan, plain_plan};
 use crate::replacement::{has_replacement, replacement_plan};
+use base::NoMemory;
 use g_graph::{Lambda, Node, Region, node_at};
-use no_memory::NoMemory;
 use r_edit::RegionRule;
 use std::alloc::Global;
 

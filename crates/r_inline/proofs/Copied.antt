@@ -9,7 +9,7 @@ use Rattle.g_graph.specs.WellFormed.{IsWellFormed}
 use Rattle.g_mean.specs.Copies.{IsClosed}
 use Rattle.g_mean.proofs.lemmas.Closed.{region-closed}
 use Rattle.r_edit.specs.Steps.{MayStandFor}
-use Rattle.r_copy.specs.Numbering.{node_count, region_numbered}
+use Rattle.r_edit.specs.Numbering.{node_count, region_numbered}
 use Rattle.r_inline.specs.Rule.{call_at, applies, iln}
 use Rattle.r_inline.proofs.Body.{is-body}
 use Rattle.r_inline.proofs.Kept.{applies-parts, iln_is_a_step}

@@ -22,10 +22,10 @@ use Rattle.g_graph.proofs.lemmas.Numbers.{Numbered, numbered_left, numbered_righ
 use Rattle.g_graph.proofs.lemmas.Redirects.{nodes_ids-redirected}
 use Rattle.g_graph.proofs.lemmas.Splices.{nodes_ids-joined}
 use Rattle.g_graph.proofs.lemmas.Unique.{times, times_append, all_of_append, all_of_holds, counts_of_distinct, distinct_of_counts}
-use Rattle.r_copy.specs.Numbering.{node_count, region_numbered}
+use Rattle.r_edit.specs.Numbering.{node_count, region_numbered}
 use Rattle.val_core.specs.Numbers.{numbers_from}
-use Rattle.r_copy.proofs.lemmas.Fits.{copies_fit}
-use Rattle.r_copy.proofs.lemmas.Numbering.{copies_are_numbered, from-not-below, from-once, from-below, none-above}
+use Rattle.r_edit.proofs.lemmas.Fits.{copies_fit}
+use Rattle.r_edit.proofs.lemmas.Numbering.{copies_are_numbered, from-not-below, from-once, from-below, none-above}
 use Rattle.r_inline.specs.Rule.{iln_here}
 use Rattle.r_inline.proofs.Body.{IsBody, is-body}
 use Rattle.r_inline.proofs.Call.{Inlined, inlined-at}

@@ -5,7 +5,7 @@ use Rattle.std.proofs.lemmas.Bool.{and_parts}
 use Rattle.std.proofs.lemmas.Bool.Decides.{nat_tests}
 use Rattle.std.proofs.lemmas.List.{length-map}
 use Rattle.std.proofs.lemmas.Option.{same_Some}
-use Rattle.limits.specs.Limits.{most_callee_values}
+use Rattle.base.specs.Limits.{most_callee_values}
 use Rattle.g_graph.specs.declared.op.Op.{Op}
 use Rattle.g_graph.specs.Plain.{RegionTree, region, node_then, nodes_in, PlainObject, PlainLambda}
 use Rattle.g_graph.specs.Change.{region_changed}
@@ -28,9 +28,9 @@ use Rattle.r_edit.specs.Size.{IsNoLarger, IsResized, may_change_size}
 use Rattle.r_edit.specs.Steps.{MayStandForAll}
 use Rattle.r_edit.proofs.lemmas.Size as size
 use Rattle.r_edit.proofs.lemmas.Steps.{edits_keep_interface}
-use Rattle.r_copy.specs.Numbering.{node_count, region_numbered}
-use Rattle.r_copy.proofs.lemmas.Copies.{numbered-ops}
-use Rattle.r_copy.proofs.lemmas.Fits.{copied-nodes-values}
+use Rattle.r_edit.specs.Numbering.{node_count, region_numbered}
+use Rattle.r_edit.proofs.lemmas.Copies.{numbered-ops}
+use Rattle.r_edit.proofs.lemmas.Fits.{copied-nodes-values}
 use Rattle.r_inline.specs.Rule.{inlined, iln_here, call_values, may_inline, applies, iln}
 use Rattle.r_inline.specs.Laws.{IlnIsAStep}
 use Rattle.r_inline.proofs.Call.{inlined-at}

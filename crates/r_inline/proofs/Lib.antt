@@ -7,5 +7,9 @@ mod Kept
 mod Examples
 mod Copied
 mod Nodes
--- What is passed on of the libraries below.
-pub use Rattle.r_copy.proofs as of_r_copy
+mod CalledAt
+mod Known
+mod Chosen
+mod Said
+mod Numbered
+mod AskedAt

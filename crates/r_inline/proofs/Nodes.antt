@@ -3,7 +3,7 @@ use Rattle.std.specs.Prelude.{◌&&◌, ◌==◌, ◌^◌, ◌<◌, nat_le}
 use Rattle.std.proofs.Common.{◌≡◌, ℕ, ◌+◌, ◌-◌, true, length, arith}
 use Rattle.std.proofs.lemmas.Bool.{and_parts}
 use Rattle.std.proofs.lemmas.Bool.Decides.{nat_tests}
-use Rattle.limits.specs.Limits.{most_callee_values}
+use Rattle.base.specs.Limits.{most_callee_values}
 use Rattle.g_graph.specs.Plain.{nodes_in, PlainLambda}
 use Rattle.g_graph.specs.Count.{nodes_values}
 use Rattle.g_graph.specs.Program.{lambda_values}
@@ -11,7 +11,7 @@ use Rattle.g_graph.specs.WellFormed.{IsWellFormed}
 use Rattle.g_mean.specs.Copies.{IsClosed}
 use Rattle.g_mean.proofs.lemmas.Closed.{region-closed}
 use Rattle.r_edit.specs.Size.{may_change_size}
-use Rattle.r_copy.specs.Numbering.{node_count}
+use Rattle.r_edit.specs.Numbering.{node_count}
 use Rattle.r_inline.specs.Rule.{call_values, may_inline}
 use Rattle.r_inline.proofs.Body.{is-body}
 use Rattle.r_inline.proofs.Kept.{none-there}

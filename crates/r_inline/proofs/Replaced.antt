@@ -27,10 +27,10 @@ use Rattle.g_mean.proofs.lemmas.LessDefined.{less-kept}
 use Rattle.g_mean.proofs.lemmas.LocalRefinement.{bodies_replace_calls}
 use Rattle.g_mean.proofs.lemmas.Splices.{joined-read, spliced_regions_refine}
 use Rattle.r_edit.proofs.lemmas.Numbers.{below, among-whole}
-use Rattle.r_copy.specs.Numbering.{number_from, region_numbered}
-use Rattle.r_copy.proofs.lemmas.Numbering.{number_from-least, moved-ids}
-use Rattle.r_copy.proofs.lemmas.Fits.{copies_fit}
-use Rattle.r_copy.proofs.lemmas.Copies.{numbered_copies_mean_the_same}
+use Rattle.r_edit.specs.Numbering.{number_from, region_numbered}
+use Rattle.r_edit.proofs.lemmas.Numbering.{number_from-least, moved-ids}
+use Rattle.r_edit.proofs.lemmas.Fits.{copies_fit}
+use Rattle.r_edit.proofs.lemmas.Copies.{numbered_copies_mean_the_same}
 use Rattle.r_inline.specs.Rule.{inlined, iln_here}
 use Rattle.r_inline.specs.Laws.{IlnReplaces}
 use Rattle.r_inline.proofs.Body.{IsBody, is-body, arguments-count}

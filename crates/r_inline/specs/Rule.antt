@@ -1,6 +1,6 @@
 -- Inlining: a copy of the called function's body in the place of a call (Reissmann et al., RVSDG, 2020, of Apply nodes).
 use Rattle.std.specs.Prelude.{ℕ, ◌+◌, ◌-◌, ◌^◌, ◌==◌, nat_le, ◌&&◌, if◌then◌else◌, Bool, false, List, length, Option, None, Some, option_map, option_and_then, is_some}
-use Rattle.limits.specs.Limits.{most_callee_values}
+use Rattle.base.specs.Limits.{most_callee_values}
 use Rattle.g_graph.specs.declared.op.Op.{Op}
 use Rattle.g_graph.specs.declared.op.Op.TheVariants.{Apply}
 use Rattle.g_graph.specs.declared.op.Origin.{Origin}
@@ -12,7 +12,7 @@ use Rattle.g_graph.specs.Replace.{region_redirected}
 use Rattle.g_graph.specs.Splice.{args_to_inputs, region_spliced}
 use Rattle.g_graph.specs.Change.{region_changed, lambda_changed}
 use Rattle.r_edit.specs.Size.{may_change_size}
-use Rattle.r_copy.specs.Numbering.{node_count, region_numbered}
+use Rattle.r_edit.specs.Numbering.{node_count, region_numbered}
 
 -- ---- the call
 

@@ -2,14 +2,14 @@
 
 ghost use Rattle.std.specs.Prelude.{◌≡◌, ◌+◌, IfOk, IfSome, option_map};
 ghost use Rattle.g_graph.specs.WellFormed.{IsWellFormed};
-ghost use Rattle.r_copy.specs.Numbering.{node_count};
+ghost use Rattle.r_edit.specs.Numbering.{node_count};
 ghost use Rattle.r_inline.specs.Rule.{node_inlined};
 
 use crate::inputs::calls;
 use crate::room::may_inline;
+use base::NoMemory;
 use g_graph::{ArgsToInputs, Lambda, Op, Origin, redirect_region};
-use no_memory::NoMemory;
-use r_copy::{Numbered, copy_numbered};
+use r_edit::{Numbered, copy_numbered};
 use std::alloc::Global;
 
 /// What comes in the place of a node with this op and these inputs, in a lambda of so many values

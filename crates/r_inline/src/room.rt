@@ -2,17 +2,16 @@
 
 ghost use Rattle.std.specs.Prelude.{◌≡◌, ◌+◌, ◌-◌, ◌^◌, nat_le, if◌then◌else◌};
 ghost use Rattle.std.specs.declared.option.Option.TheVariants.{Some, None};
-ghost use Rattle.limits.specs.Limits.{most_callee_values};
+ghost use Rattle.base.specs.Limits.{most_callee_values};
 ghost use Rattle.g_graph.specs.Plain.{nodes_in};
 ghost use Rattle.g_graph.specs.Count.{nodes_values};
 ghost use Rattle.g_graph.specs.Program.{lambda_values};
-ghost use Rattle.r_copy.specs.Numbering.{node_count};
+ghost use Rattle.r_edit.specs.Numbering.{node_count};
 ghost use Rattle.r_inline.specs.Rule.{may_inline};
 
+use base::MOST_CALLEE_VALUES;
 use g_graph::{Lambda, values};
-use limits::MOST_CALLEE_VALUES;
-use r_copy::{numbers_left, values_left};
-use r_edit::may_change_size;
+use r_edit::{may_change_size, numbers_left, values_left};
 
 /// The values of a call: the node and its three outputs.
 const CALL_VALUES: u64 = 4;

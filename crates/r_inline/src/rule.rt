@@ -10,12 +10,12 @@ ghost use Rattle.r_inline.specs.Rule.{call_at, iln_here, may_inline, applies, il
 
 use crate::inputs::call_at;
 use crate::room::{may_inline, values_that_decide};
+use base::NoMemory;
 use g_graph::{
     ArgsToInputs, CanChange, Change, Lambda, Origin, Region, can_change_lambda, change_lambda,
     redirect_region, splice_region,
 };
-use no_memory::NoMemory;
-use r_copy::copy_numbered;
+use r_edit::copy_numbered;
 use std::alloc::Global;
 use std::mem;
 

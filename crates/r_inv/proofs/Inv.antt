@@ -24,8 +24,8 @@ use Rattle.g_graph.proofs.lemmas.Nodes.{NodeFits, node_fits_here, KeptWithin}
 use Rattle.g_graph.proofs.lemmas.Numbers.{Numbered}
 use Rattle.g_graph.proofs.lemmas.Splices.{Split, split_at}
 use Rattle.g_graph.proofs.lemmas.Unique.{same_number}
-use Rattle.r_edit.specs.g_mean.Edits.{IsPartOf}
-use Rattle.r_edit.specs.g_mean.Replacement.{Replaces}
+use Rattle.g_mean.specs.Edits.{IsPartOf}
+use Rattle.g_mean.specs.Replacement.{Replaces}
 use Rattle.r_edit.specs.InPlace.{outputs_redirected}
 use Rattle.r_edit.specs.Size.{IsResized}
 use Rattle.g_graph.specs.Program.{lambda_values}

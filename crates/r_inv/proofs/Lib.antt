@@ -1,2 +1,13 @@
 mod Inv
 mod Lists
+mod Listed
+mod ListParts
+mod Alike
+mod Named
+mod InputKinds
+mod Carrying
+mod Moves
+mod Visits
+mod Asked
+mod Ports
+mod Going

@@ -6,8 +6,8 @@ ghost use Rattle.g_graph.specs.Nodes.{is_used};
 ghost use Rattle.r_edit.specs.Carried.{staying};
 ghost use Rattle.r_inv.specs.Rule.{some_used};
 
+use base::NoMemory;
 use g_graph::{Origin, Region};
-use no_memory::NoMemory;
 use r_edit::{Source, uses_source};
 use std::alloc::Global;
 

@@ -10,8 +10,8 @@ use crate::carried::{list_of, some_used, staying};
 use crate::gamma::Exits;
 use crate::plan::Plan;
 use crate::theta::Variables;
+use base::NoMemory;
 use g_graph::{Node, Op, Region, node_at};
-use no_memory::NoMemory;
 use std::alloc::Global;
 
 /// Whether the region holds the node of this number, and uses of outputs of it may move.

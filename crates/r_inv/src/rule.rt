@@ -10,8 +10,8 @@ ghost use Rattle.r_inv.specs.Plan.{carried_out, fits};
 
 use crate::find::{can_redirect, plan_at};
 use crate::plan::Plan;
+use base::NoMemory;
 use g_graph::{Lambda, Region};
-use no_memory::NoMemory;
 use r_edit::{RegionRule, carry_exits, carry_uses};
 use std::alloc::Global;
 

@@ -12,7 +12,7 @@ use Rattle.g_graph.specs.Ids.{nodes_ids}
 use Rattle.g_graph.specs.Splice.{joined_nodes, outputs_to_results}
 use Rattle.g_graph.proofs.lemmas.Splices.{nodes_ids-joined, nodes_values-joined}
 use Rattle.r_edit.specs.Size.{may_change_size}
-use Rattle.r_copy.specs.Numbering.{node_count}
+use Rattle.r_edit.specs.Numbering.{node_count}
 use Rattle.r_invert.specs.Edit.{branches_so, up_to, values_counted, growth_so, numbers_so, indexes_so, room_so, loop_parts, ends_so}
 use Rattle.r_invert.specs.Rule.{Parts, last_node, but_last, giving, parts_with, new_nodes, growth, loop_values, may_invert}
 use Rattle.r_invert.proofs.Forms.{ending, split-last}

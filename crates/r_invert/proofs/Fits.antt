@@ -25,7 +25,7 @@ use Rattle.g_mean.proofs.lemmas.Copies.{among-left, among-right}
 use Rattle.g_mean.proofs.lemmas.Edits.{distinct-split}
 use Rattle.g_mean.proofs.lemmas.Holds.{distinct-apart}
 use Rattle.val_core.specs.Numbers.{numbers_from}
-use Rattle.r_copy.proofs.lemmas.Numbering.{from-not-below, from-once, from-below, none-above}
+use Rattle.r_edit.proofs.lemmas.Numbering.{from-not-below, from-once, from-below, none-above}
 use Rattle.r_edit.proofs.lemmas.Loops.{loop_node}
 use Rattle.r_edit.proofs.lemmas.Numbers.{below}
 use Rattle.r_invert.specs.Laws.{IsLoopRegion}

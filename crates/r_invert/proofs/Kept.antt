@@ -20,9 +20,9 @@ use Rattle.g_graph.proofs.lemmas.Splices.{nodes_values-joined}
 use Rattle.g_mean.specs.Edits.{IsEdited}
 use Rattle.r_edit.specs.Size.{IsResized, may_change_size}
 use Rattle.r_edit.proofs.lemmas.Steps.{safe_changes_are_steps}
-use Rattle.r_copy.specs.Numbering.{node_count, region_numbered}
-use Rattle.r_copy.proofs.lemmas.Copies.{numbered-ops}
-use Rattle.r_copy.proofs.lemmas.Fits.{copied-nodes-values, copies_count_the_same}
+use Rattle.r_edit.specs.Numbering.{node_count, region_numbered}
+use Rattle.r_edit.proofs.lemmas.Copies.{numbered-ops}
+use Rattle.r_edit.proofs.lemmas.Fits.{copied-nodes-values, copies_count_the_same}
 use Rattle.r_edit.proofs.lemmas.Loops.{loop_node}
 use Rattle.r_invert.specs.Compose.{in_sequence, alone}
 use Rattle.r_invert.specs.Laws.{IvtIsAStep}

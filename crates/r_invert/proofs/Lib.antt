@@ -22,5 +22,7 @@ mod Remade
 mod Found
 mod Applied
 mod Nodes
--- What is passed on of the libraries below.
-pub use Rattle.r_copy.proofs as of_r_copy
+pub mod Inverted
+mod NewNumbers
+mod Said
+mod AskedAt

@@ -14,8 +14,8 @@ use Rattle.g_graph.specs.Ids.{nodes_ids}
 use Rattle.g_mean.specs.Data.{Datum, value_of}
 use Rattle.g_mean.specs.Meaning.{Meaning, Context, branched, again, turns, region_meaning}
 use Rattle.g_mean.proofs.lemmas.Closed.{region-closed}
-use Rattle.r_copy.specs.Numbering.{node_count, region_numbered}
-use Rattle.r_copy.proofs.lemmas.Copies.{numbered_copies_mean_the_same}
+use Rattle.r_edit.specs.Numbering.{node_count, region_numbered}
+use Rattle.r_edit.proofs.lemmas.Copies.{numbered_copies_mean_the_same}
 use Rattle.r_edit.proofs.lemmas.Loops.{gives-results, chosen-two}
 use Rattle.r_invert.specs.Compose.{in_sequence, alone}
 use Rattle.r_invert.specs.Laws.{either}

@@ -12,21 +12,20 @@ use Rattle.g_graph.specs.Scope.{same_kind, is_of, known}
 use Rattle.g_graph.specs.Signatures.{result_kinds}
 use Rattle.g_graph.specs.Splice.{args_to_inputs}
 use Rattle.g_graph.specs.WellFormed.{some_of, are, same, kinds_of, distinct, one_state_each, region_fits, every_region}
-use Rattle.g_graph.proofs.lemmas.KindLists.{are_themselves, kinds_of_some}
+use Rattle.g_graph.proofs.lemmas.KindLists.{are_themselves, kinds_of_some, some_kind}
 use Rattle.g_graph.proofs.lemmas.Redirects.{nodes_ids-redirected}
 use Rattle.g_graph.proofs.lemmas.Splices.{nodes_ids-joined}
 use Rattle.g_graph.proofs.lemmas.Unique.{same_number}
 use Rattle.g_mean.specs.Copies.{IsAmong}
 use Rattle.g_mean.proofs.lemmas.Copies.{among-right}
 use Rattle.r_edit.proofs.lemmas.AddedFit.{fits-parts}
-use Rattle.r_copy.specs.Numbering.{node_count, region_numbered}
+use Rattle.r_edit.specs.Numbering.{node_count, region_numbered}
 use Rattle.val_core.specs.Numbers.{numbers_from}
-use Rattle.r_copy.proofs.lemmas.Fits.{copies_fit}
-use Rattle.r_copy.proofs.lemmas.Numbering.{copies_are_numbered}
+use Rattle.r_edit.proofs.lemmas.Fits.{copies_fit}
+use Rattle.r_edit.proofs.lemmas.Numbering.{copies_are_numbered}
 use Rattle.r_invert.specs.Compose.{in_sequence, alone}
 use Rattle.r_invert.proofs.AloneFits.{NodeAsks, alone-kinds, alone-fits}
 use Rattle.r_invert.proofs.Sequence.{HaveStates, sequence-kinds, sequence-fits}
-use Rattle.g_graph.proofs.lemmas.KindLists.{some_kind}
 
 -- ---- numbers
 

@@ -7,7 +7,7 @@ use Rattle.g_graph.specs.declared.op.Op.TheVariants.{Gamma, Theta}
 use Rattle.g_graph.specs.Plain.{RegionTree, region, no_regions, region_then, args_of, results_of}
 use Rattle.g_graph.specs.Signatures.{result_kinds}
 use Rattle.g_graph.specs.Scope.{known}
-use Rattle.r_copy.specs.Numbering.{node_count, region_numbered}
+use Rattle.r_edit.specs.Numbering.{node_count, region_numbered}
 use Rattle.r_invert.specs.Compose.{alone}
 use Rattle.r_invert.specs.Rule.{Parts, turn, remaining, choice, inverted, new_nodes}
 use Rattle.r_invert.proofs.Pieces.{Part, Piece, numbered-piece, sequence-piece, gamma-piece, theta-piece}

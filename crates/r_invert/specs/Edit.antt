@@ -1,6 +1,5 @@
 -- The parts of the change, as it is made.
-use Rattle.std.specs.Prelude.{ℕ, ◌≡◌, ◌+◌, ◌-◌, ◌*◌, ◌^◌, ◌<◌, nat_le, nat_lt, ◌&&◌, if◌then◌else◌, Bool, true, false, List, [], ◌∷◌, length}
-use Rattle.std.specs.Prelude.{count_by, Option, None, Some, option_map, option_and_then, is_some}
+use Rattle.std.specs.Prelude.{ℕ, ◌≡◌, ◌+◌, ◌-◌, ◌*◌, ◌^◌, ◌<◌, nat_le, nat_lt, ◌&&◌, if◌then◌else◌, Bool, true, false, List, [], ◌∷◌, length, count_by, Option, None, Some, option_map, option_and_then, is_some}
 use Rattle.g_graph.specs.declared.op.Op.TheVariants.{Gamma, Theta}
 use Rattle.g_graph.specs.declared.op.Origin.{Origin}
 use Rattle.g_graph.specs.Plain.{RegionTree, region, NodeTree, node, RegionTrees, no_regions, region_then, args_of, nodes_in, results_of, inputs_in}
@@ -11,7 +10,7 @@ use Rattle.g_graph.specs.Splice.{args_to_inputs, region_spliced}
 use Rattle.g_graph.specs.WellFormed.{all_of}
 use Rattle.g_mean.specs.Copies.{IsClosed}
 use Rattle.r_edit.specs.Size.{may_change_size}
-use Rattle.r_copy.specs.Numbering.{node_count}
+use Rattle.r_edit.specs.Numbering.{node_count}
 use Rattle.r_invert.specs.Rule.{Parts, parts_of, is_output_of, takes_both_states, word_given, is_zero, is_other, may_invert, inverted, new_nodes, but_last, giving}
 
 abbrev pub parts_are : (test stop go : RegionTree) → Parts

@@ -3,6 +3,6 @@ pub mod Rule
 pub mod Laws
 pub mod Edit
 pub mod Sound
--- What is passed on of the libraries below.
-pub use Rattle.r_copy.specs as r_copy
-pub use Rattle.r_edit.specs as r_edit
+pub mod Asked
+pub mod WalkLaws
+pub mod AskedAt

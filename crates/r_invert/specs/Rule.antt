@@ -17,7 +17,7 @@ use Rattle.g_graph.specs.Splice.{args_to_inputs, outputs_to_results, region_spli
 use Rattle.g_graph.specs.Program.{lambda_values}
 use Rattle.g_graph.specs.WellFormed.{all_of, some_of}
 use Rattle.r_edit.specs.Size.{may_change_size}
-use Rattle.r_copy.specs.Numbering.{node_count, region_numbered}
+use Rattle.r_edit.specs.Numbering.{node_count, region_numbered}
 use Rattle.r_invert.specs.Compose.{in_sequence, alone}
 
 -- ---- the form of the loop

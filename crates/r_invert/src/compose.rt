@@ -4,8 +4,8 @@ ghost use Rattle.std.specs.Prelude.{◌≡◌, ◌≤◌, ◌^◌, ◌++◌, IfO
 ghost use Rattle.g_graph.specs.Plain.{regions_of};
 ghost use Rattle.r_invert.specs.Compose.{in_sequence, alone};
 
+use base::NoMemory;
 use g_graph::{ArgsToInputs, Kind, Node, Op, Region, redirect_region};
-use no_memory::NoMemory;
 use r_edit::{arguments, outputs_of};
 use smallvec::SmallVec;
 use std::alloc::Global;

@@ -4,14 +4,14 @@ ghost use Rattle.std.specs.Prelude.{◌≡◌, ◌<◌, ◌+◌, ◌^◌, ◌∷
 ghost use Rattle.g_graph.specs.declared.op.Kind.TheVariants.{Value};
 ghost use Rattle.g_graph.specs.Plain.{args_of, results_of};
 ghost use Rattle.g_mean.specs.Copies.{IsClosed};
-ghost use Rattle.r_copy.specs.Numbering.{node_count};
+ghost use Rattle.r_edit.specs.Numbering.{node_count};
 ghost use Rattle.r_invert.specs.Edit.{parts_are};
 ghost use Rattle.r_invert.specs.Rule.{turn, remaining, choice, inverted, new_nodes};
 
 use crate::compose::{alone, in_sequence};
+use base::NoMemory;
 use g_graph::{Kind, Op, Region};
-use no_memory::NoMemory;
-use r_copy::{Numbered, copy_numbered};
+use r_edit::{Numbered, copy_numbered};
 use std::alloc::Global;
 
 /// The inverted loop with these parts, with numbers from `next` on in pre-order, and the number

@@ -9,8 +9,8 @@ ghost use Rattle.r_invert.specs.Sound.{AreSound};
 use crate::part::regions_part;
 use crate::room::only_may;
 use crate::rule::with_inputs;
+use base::NoMemory;
 use g_graph::{Op, Origin, Region};
-use no_memory::NoMemory;
 use std::alloc::Global;
 
 /// What comes in the place of a node with this op, inputs and regions, in a lambda of so many

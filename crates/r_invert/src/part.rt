@@ -10,8 +10,8 @@ ghost use Rattle.r_invert.specs.Rule.{giving, but_last, inverted};
 
 use crate::find::find_loop;
 use crate::made::inverted;
+use base::NoMemory;
 use g_graph::{Lambda, Node, Origin, OutputsToResults, Region, copy_region, redirect_origins};
-use no_memory::NoMemory;
 use std::alloc::Global;
 
 /// What comes in the place of the loop of this number that is found first in the lambda, with

@@ -6,8 +6,7 @@ ghost use Rattle.r_invert.specs.Edit.{values_counted, nodes_counted, growth_so, 
 
 use crate::form::branches_so;
 use g_graph::{Node, Op, Region};
-use r_copy::{numbers_left, values_left};
-use r_edit::may_change_size;
+use r_edit::{may_change_size, numbers_left, values_left};
 
 /// More values than the region of a loop has, on any machine.
 const MOST_VALUES: u64 = 1 << 60;

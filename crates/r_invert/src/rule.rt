@@ -13,11 +13,11 @@ ghost use Rattle.r_invert.specs.Rule.{ivt_here, applies, ivt};
 
 use crate::find::{loop_at, new_left};
 use crate::part::part_of;
+use base::NoMemory;
 use g_graph::{
     ArgsToInputs, CanChange, Change, Lambda, Origin, Region, can_change_lambda, change_lambda,
     redirect_region, splice_region, values,
 };
-use no_memory::NoMemory;
 use std::alloc::Global;
 use std::mem;
 

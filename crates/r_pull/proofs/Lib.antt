@@ -17,3 +17,12 @@ mod Saturated
 pub mod Found
 mod Filled
 mod Moves
+mod WalkExamples
+mod Places
+mod WalkStep
+mod Walks
+mod After
+mod Loops
+mod Steps
+mod Uses
+mod Written

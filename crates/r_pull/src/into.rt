@@ -10,8 +10,8 @@ use crate::count::change_of;
 use crate::fill::take;
 use crate::find::found_into;
 use crate::plan::{Plan, plan_for};
+use base::NoMemory;
 use g_graph::Node;
-use no_memory::NoMemory;
 use std::alloc::Global;
 
 /// What a move made: so many copies; and so many values came, and went.

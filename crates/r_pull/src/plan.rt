@@ -8,8 +8,8 @@ ghost use Rattle.r_pull.specs.Edit.{pull_into, count_nodes, IsCounted, AreListsO
 
 use crate::find::entries_of;
 use crate::reads::reads_gone;
+use base::NoMemory;
 use g_graph::{Kind, Node, Op, Origin, Region};
-use no_memory::NoMemory;
 use r_edit::is_output_of;
 use smallvec::SmallVec;
 use std::alloc::Global;

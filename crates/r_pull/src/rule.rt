@@ -11,8 +11,8 @@ ghost use Rattle.r_pull.specs.Edit.{planned, FitsPlanned};
 use crate::fill::carry_out;
 use crate::find::found_at;
 use crate::plan::{Plan, plan_for};
+use base::NoMemory;
 use g_graph::{Change, Lambda, Node, Region, change_lambda, values};
-use no_memory::NoMemory;
 use std::alloc::Global;
 
 /// Whether the rule applies at the node of this number: a Const, Undef, Local, Delta, Bin or Un

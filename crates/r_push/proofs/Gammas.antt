@@ -28,7 +28,7 @@ use Rattle.r_edit.proofs.lemmas.Added.{arg_added_means}
 use Rattle.r_push.specs.Rule.{names_argument, leaving, leaving_one, carried, regions_carried}
 use Rattle.r_push.proofs.Stays.{carried-elsewhere}
 use Rattle.r_push.proofs.Taken.{carried-is, taken-same, taken_nodes}
-use Rattle.r_push.proofs.Leaving.{Leaves, leaves, Gives}
+use Rattle.r_push.proofs.LeavingNode.{Leaves, leaves, Gives}
 
 -- ---- a region
 

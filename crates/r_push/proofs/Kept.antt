@@ -26,7 +26,7 @@ use Rattle.r_edit.specs.Steps.{IsSafeChange}
 use Rattle.r_edit.proofs.lemmas.Steps.{kept_well_formed, changed_is_a_step}
 use Rattle.r_push.specs.Rule.{names_argument, leaving, leaving_one, leaving_loop, carried, regions_carried, looped, placed, pushed, psh_here, is_invariant, psh}
 use Rattle.r_push.specs.Laws.{PshIsAStep}
-use Rattle.r_push.proofs.Leaving.{Leaves, leaves}
+use Rattle.r_push.proofs.LeavingNode.{Leaves, leaves}
 use Rattle.r_push.proofs.Replaced.{changed-at, psh_replaces}
 use Rattle.r_push.proofs.LeftFit.{left-fits}
 use Rattle.r_push.proofs.Resized.{psh_resizes}

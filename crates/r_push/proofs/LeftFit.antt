@@ -36,7 +36,7 @@ use Rattle.r_edit.proofs.lemmas.Scopes.{KeepsScope, kept_all, kept_node_fits}
 use Rattle.r_edit.proofs.lemmas.AddedFit.{nothing, none-of, one_more, index-added, some-added, with_value, one-argument-more, fits-parts, result_added_fits, all-added}
 use Rattle.r_push.specs.Rule.{names_argument, leaving_one, is_invariant, leaving_loop, regions_carried, looped, placed, pushed}
 use Rattle.r_push.proofs.Stays.{known-stays}
-use Rattle.r_push.proofs.Leaving.{Leaves, leaves}
+use Rattle.r_push.proofs.LeavingNode.{Leaves, leaves}
 use Rattle.r_push.proofs.Gammas.{AllTake, leaving-among, one-among}
 use Rattle.r_push.proofs.Thetas.{invariant-arguments}
 use Rattle.r_push.proofs.Replaced.{Outside, one-outside, leaves-outside, take-all, not-known}

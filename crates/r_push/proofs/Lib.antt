@@ -1,6 +1,6 @@
 pub mod Stays
 pub mod Taken
-mod Leaving
+mod LeavingNode
 pub mod Gammas
 mod Thetas
 mod Placed
@@ -16,3 +16,16 @@ mod Saturated
 pub mod Listed
 pub mod Indexed
 mod Examples
+mod Around
+mod Grown
+mod Pushed
+mod Rooms
+mod Inner
+mod Tested
+mod Node
+mod Walks
+mod WalkExamples
+mod Along
+mod Exits
+mod Growth
+mod LeftOut

@@ -26,7 +26,7 @@ use Rattle.g_graph.specs.declared.op.Op.TheVariants.{Gamma}
 use Rattle.r_push.specs.Rule.{names_argument, leaving, leaving_one, carried, regions_carried}
 use Rattle.r_push.proofs.Stays.{carried-elsewhere}
 use Rattle.r_push.proofs.Taken.{carried-is}
-use Rattle.r_push.proofs.Leaving.{Leaves, leaves}
+use Rattle.r_push.proofs.LeavingNode.{Leaves, leaves}
 use Rattle.r_push.proofs.Gammas.{leaving-among, one-among}
 use Rattle.r_push.proofs.CarriedFit.{taken-fits}
 

@@ -36,7 +36,7 @@ use Rattle.r_edit.specs.Size.{may_change_size}
 use Rattle.r_push.specs.Rule.{names_argument, leaving, leaving_one, is_invariant, leaving_loop, regions_carried, looped, placed, growth, can_count, pushed, pushed_within, nodes_pushed, psh_here}
 use Rattle.r_push.specs.Laws.{PshReplaces}
 use Rattle.r_push.proofs.Stays.{known-own, region-unread}
-use Rattle.r_push.proofs.Leaving.{Leaves, leaves, Gives, gives-both}
+use Rattle.r_push.proofs.LeavingNode.{Leaves, leaves, Gives, gives-both}
 use Rattle.r_push.proofs.Gammas.{AllTake, leaving-among, one-among, all-mean, gamma-same}
 use Rattle.r_push.proofs.Thetas.{Followed, invariant-arguments, theta-same}
 use Rattle.r_push.proofs.Placed.{Carries, RunsBoth, two-replace}

@@ -26,7 +26,7 @@ use Rattle.r_edit.specs.Added.{result_added, input_added}
 use Rattle.r_edit.proofs.lemmas.Added.{last-port}
 use Rattle.r_push.specs.Rule.{names_argument, is_invariant, looped}
 use Rattle.r_push.proofs.Taken.{carried-is, taken-same, taken_nodes}
-use Rattle.r_push.proofs.Leaving.{Leaves, Gives}
+use Rattle.r_push.proofs.LeavingNode.{Leaves, Gives}
 use Rattle.r_push.proofs.Gammas.{reads-carried}
 
 -- the same data, and the value after them

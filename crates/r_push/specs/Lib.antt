@@ -1,5 +1,6 @@
 pub mod Rule
 pub mod Laws
 pub mod Edit
--- What is passed on of the libraries below.
-pub use Rattle.r_edit.specs as r_edit
+pub mod Walk
+pub mod WalkLaws
+pub mod Walks

@@ -1,15 +1,14 @@
 //! What the change needs, made before it: the node outside, and lists that are one longer.
 
-ghost use Rattle.std.specs.Prelude.{◌≡◌, ◌<◌, ◌^◌, ◌++◌, [], ◌∷◌, IfOk, length};
+ghost use Rattle.std.specs.Prelude.{◌≡◌, ◌<◌, ◌^◌, ◌++◌, [], ◌∷◌, IfOk, length, IsTrue};
 ghost use Rattle.g_graph.specs.Plain.{regions_of, args_of};
 ghost use Rattle.g_graph.specs.Replace.{node_redirected};
 ghost use Rattle.g_graph.specs.Splice.{args_to_inputs};
-ghost use Rattle.std.specs.Prelude.{IsTrue};
 ghost use Rattle.r_push.specs.Edit.{has_no_regions, longer, all_longer};
 ghost use Rattle.r_push.specs.Rule.{can_all_count};
 
+use base::NoMemory;
 use g_graph::{ArgsToInputs, Kind, Node, Origin, Region, redirect_origins};
-use no_memory::NoMemory;
 use smallvec::SmallVec;
 use std::alloc::Global;
 

@@ -13,8 +13,8 @@ use crate::carry::carry_all;
 use crate::find::{can_leave, first_output};
 use crate::grow::{longer_lists, more_inputs, outside};
 use crate::left::{left, outer};
+use base::NoMemory;
 use g_graph::{Node, Op, Origin, Region};
-use no_memory::NoMemory;
 use smallvec::SmallVec;
 use std::alloc::Global;
 

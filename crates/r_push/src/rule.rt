@@ -8,8 +8,8 @@ ghost use Rattle.r_push.specs.Rule.{psh_here, applies, psh};
 
 use crate::find::can_push;
 use crate::push::push;
+use base::NoMemory;
 use g_graph::{Lambda, Region, values};
-use no_memory::NoMemory;
 use r_edit::RegionRule;
 use std::alloc::Global;
 

@@ -5,8 +5,8 @@ use Rattle.std.specs.List.{remove}
 use Rattle.g_arena_def.specs.Flat.{FlatRegion, FlatNode, Flat, place_in}
 use Rattle.g_arena_def.specs.Reads.{result_at}
 use Rattle.g_arena_def.specs.Edits.{output_removed, result_removed}
-use Rattle.r_sweep_laws.specs.g_arena_laws.Removals.{each_of}
-use Rattle.r_sweep_laws.proofs.lemmas.Edits.{NodeAt, output_gone, result_less, output_at, result_gone_at, at_other}
+use Rattle.r_sweep.specs.Removals.{each_of}
+use Rattle.r_sweep.proofs.lemmas.Edits.{NodeAt, output_gone, result_less, output_at, result_gone_at, at_other}
 use Rattle.r_sweep.specs.Exit.{IsExit}
 
 module _ (n count port : ℕ) (a : Flat) (h : IsExit n count port a) where

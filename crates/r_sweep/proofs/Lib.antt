@@ -1,3 +1,3 @@
+pub mod lemmas
+mod Changes
 mod ExitLemmas
--- What is passed on of the libraries below.
-pub use Rattle.r_sweep_laws.proofs as of_r_sweep_laws

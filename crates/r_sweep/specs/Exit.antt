@@ -1,7 +1,7 @@
 -- An exit variable that may go.
 use Rattle.std.specs.Prelude.{◌≡◌, ℕ, ◌<◌, false, IsSome, length, slice_get, option_and_then}
 use Rattle.std.specs.declared.option.Option.TheVariants.{Some}
-use Rattle.g_arena_def.specs.g_graph.declared.op.Origin.TheVariants.{Out}
+use Rattle.g_graph.specs.declared.op.Origin.TheVariants.{Out}
 use Rattle.g_arena_def.specs.Flat.{FlatRegion, FlatNode, Flat, same_node}
 use Rattle.g_arena_def.specs.Reads.{found, uses_in}
 

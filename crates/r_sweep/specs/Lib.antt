@@ -1,3 +1,6 @@
+pub mod Removals
+pub mod Laws
 pub mod Exit
--- What is passed on of the libraries below.
-pub use Rattle.r_sweep_laws.specs as r_sweep_laws
+pub mod Walk
+pub mod Measure
+pub mod Fast

@@ -2,13 +2,13 @@
 
 ghost use Rattle.std.specs.Prelude.{◌≡◌, ◌+◌};
 ghost use Rattle.g_arena_def.specs.Flat.{place_in};
-ghost use Rattle.r_sweep_laws.specs.g_arena_laws.Removals.{exit_removed};
+ghost use Rattle.r_sweep.specs.Removals.{exit_removed};
 ghost use Rattle.r_sweep.specs.Exit.{IsExit};
 
+use base::Steps;
 use g_arena::Arena;
 use g_arena_def::Place;
 use std::sync::ledger::Ledger;
-use steps::Steps;
 
 /// The place of a region of a node.
 pub fn place_in(node: u32, region: u32) -> Place

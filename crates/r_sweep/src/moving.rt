@@ -1,16 +1,16 @@
 //! Uses that move.
 
 ghost use Rattle.std.specs.Prelude.{◌≡◌, ◌+◌, false};
-ghost use Rattle.g_arena_def.specs.g_graph.Scope.{same_origin};
+ghost use Rattle.g_graph.specs.Scope.{same_origin};
 ghost use Rattle.g_arena_def.specs.Reads.{kind_in, uses_in};
 ghost use Rattle.g_arena_def.specs.Conditions.{IsOrigin};
-ghost use Rattle.r_sweep_laws.specs.g_arena_laws.Removals.{uses_moved};
+ghost use Rattle.r_sweep.specs.Removals.{uses_moved};
 
+use base::Steps;
 use g_arena::Arena;
 use g_arena_def::Place;
-use g_arena_def::g_graph::Origin;
+use g_graph::Origin;
 use std::sync::ledger::Ledger;
-use steps::Steps;
 
 /// Each use of `from` in the region at a place, of which there are so many, becomes one of another
 /// origin of the same kind. It costs a look for each.

@@ -1,8 +1,8 @@
 -- A sweep over a list of nodes is a sweep over the lambda, where it is so at each node.
 use Rattle.std.proofs.Common.{◌≡◌, ◌++◌, ℕ, Bool, true, false, Option, None, Some, option_map, List, [], ◌∷◌, refl, ap, ◌∙◌}
 use Rattle.std.specs.Prelude.{if◌then◌else◌}
-use Rattle.g_arena_def.specs.g_graph.Plain.{PlainLambda}
-use Rattle.g_arena_def.specs.g_graph.WellFormed.{IsWellFormed}
+use Rattle.g_graph.specs.Plain.{PlainLambda}
+use Rattle.g_graph.specs.WellFormed.{IsWellFormed}
 use Rattle.g_arena_def.specs.Flat.{Flat, flat_of}
 use Rattle.r_sweep_def.specs.Swept.{Logged, Change, tried_by, swept_by}
 use Rattle.r_sweep_def.specs.Listed.{Listed, stepped_in, swept_in}

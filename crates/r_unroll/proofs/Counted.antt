@@ -2,11 +2,11 @@
 use Rattle.std.specs.Prelude.{◌&&◌, ◌+◌, ◌-◌, ◌^◌, nat_le, not, option_and_then, is_some}
 use Rattle.std.proofs.Common.{◌≡◌, ◌≢◌, slice_index_or, ℕ, true, false, cond, List, [], ◌∷◌, length, Bool, Option, None, Some, option_map, refl, sym, ap, ◌∙◌, arith}
 use Rattle.std.proofs.Math.Path.{fun_ext}
-use Rattle.limits.specs.Limits.{most_loop_values}
+use Rattle.base.specs.Limits.{most_loop_values}
 use Rattle.g_graph.specs.declared.op.Op.TheVariants.{Theta}
 use Rattle.g_graph.specs.Plain.{RegionTree, region, NodeTree, node, no_regions, region_then, regions_of}
 use Rattle.g_graph.specs.Count.{saturated, region_values}
-use Rattle.r_copy.specs.Numbering.{node_count}
+use Rattle.r_edit.specs.Numbering.{node_count}
 use Rattle.g_graph.specs.Nodes.{node_at, node_set}
 use Rattle.r_edit.proofs.lemmas.Size.{saturated-decides}
 use Rattle.r_unroll.specs.Edit.{small_body, only_body, loop_body, loop_at}

@@ -16,8 +16,8 @@ use Rattle.g_graph.specs.WellFormed.{all_of, some_of, same, are, one_state_each,
 use Rattle.g_graph.proofs.lemmas.Indexes.{same_number_true, gives_last}
 use Rattle.g_graph.proofs.lemmas.KindLists.{are_themselves, kinds_of_some}
 use Rattle.g_graph.proofs.lemmas.Splices.{joined_none, joined_following, kind_after-joined, state_after-joined, gives-joined, every_in_nodes-joined}
-use Rattle.r_copy.specs.Numbering.{region_numbered}
-use Rattle.r_copy.proofs.lemmas.Fits.{copies_fit}
+use Rattle.r_edit.specs.Numbering.{region_numbered}
+use Rattle.r_edit.proofs.lemmas.Fits.{copies_fit}
 use Rattle.r_edit.proofs.lemmas.AddedFit.{Fits, fits-parts, fits-from}
 use Rattle.r_edit.proofs.lemmas.Kept.{IsState}
 use Rattle.r_edit.proofs.lemmas.Pure.{no-index}

@@ -20,8 +20,8 @@ use Rattle.g_graph.proofs.lemmas.Splices.{nodes_ids-joined}
 use Rattle.g_mean.specs.Copies.{NodeReads, NodesRead, AllClosed, IsClosed, is_argument}
 use Rattle.r_edit.specs.Found.{region_found, node_found, nodes_found, regions_found}
 use Rattle.r_edit.proofs.lemmas.Found.{Agree, Only, both-change, found-where-changed}
-use Rattle.r_copy.specs.Numbering.{number_from, node_count, region_numbered}
-use Rattle.r_copy.proofs.lemmas.Numbering.{copied-ids}
+use Rattle.r_edit.specs.Numbering.{number_from, node_count, region_numbered}
+use Rattle.r_edit.proofs.lemmas.Numbering.{copied-ids}
 use Rattle.r_edit.proofs.lemmas.Loops.{loop_node}
 use Rattle.r_edit.specs.Origins.{origins_from}
 use Rattle.r_unroll.specs.Rule.{followed_by, second_turn_of, unrolled, may_unroll, node_unrolled, url_here, url}

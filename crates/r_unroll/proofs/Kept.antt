@@ -3,7 +3,7 @@ use Rattle.std.specs.Prelude.{◌&&◌, ◌+◌, ◌-◌, ◌^◌, nat_le, not, 
 use Rattle.std.proofs.Common.{◌≡◌, ℕ, suc, Bool, true, List, [], ◌∷◌, ◌++◌, append_assoc, append-nil, map, length, Option, None, Some, refl, sym, ap, subst, ◌∙◌, arith}
 use Rattle.std.proofs.lemmas.Bool.{and_parts}
 use Rattle.std.proofs.lemmas.List.{length-map}
-use Rattle.limits.specs.Limits.{most_loop_values}
+use Rattle.base.specs.Limits.{most_loop_values}
 use Rattle.g_graph.specs.declared.op.Kind.{Kind}
 use Rattle.g_graph.specs.declared.op.Kind.TheVariants.{Value}
 use Rattle.g_graph.specs.declared.op.Op.{Op}
@@ -19,8 +19,7 @@ use Rattle.g_graph.specs.Program.{lambda_values}
 use Rattle.g_graph.specs.Scope.{known}
 use Rattle.g_graph.specs.Signatures.{result_kinds}
 use Rattle.g_graph.specs.Splice.{joined_nodes}
-use Rattle.g_graph.specs.WellFormed.{all_of, distinct, are, inputs_fit, inputs_are_last, node_has_one_state_each, has_its_regions, theta_has_states, has_its_width}
-use Rattle.g_graph.specs.WellFormed.{has_its_object, node_fits, leaves_fit, body_fits, numbers_fit, region_fits, every_region, well_formed, IsWellFormed}
+use Rattle.g_graph.specs.WellFormed.{all_of, distinct, are, inputs_fit, inputs_are_last, node_has_one_state_each, has_its_regions, theta_has_states, has_its_width, has_its_object, node_fits, leaves_fit, body_fits, numbers_fit, region_fits, every_region, well_formed, IsWellFormed}
 use Rattle.g_graph.proofs.lemmas.Nests.{region_changed_ids, numbers_numbered, changed_well_formed}
 use Rattle.g_graph.proofs.lemmas.Nodes.{NodeFits, are_kinds}
 use Rattle.g_graph.proofs.lemmas.Numbers.{Numbered, numbered_left, numbered_right}
@@ -30,9 +29,9 @@ use Rattle.g_graph.proofs.lemmas.Unique.{distinct_of_counts}
 use Rattle.g_mean.specs.Edits.{IsPartOf, IsEdited}
 use Rattle.g_mean.proofs.lemmas.Closed.{region-closed}
 use Rattle.g_mean.proofs.lemmas.Inside.{node-here, inner-unique}
-use Rattle.r_copy.specs.Numbering.{node_count, region_numbered}
-use Rattle.r_copy.proofs.lemmas.Copies.{numbered-ops}
-use Rattle.r_copy.proofs.lemmas.Fits.{copies_count_the_same}
+use Rattle.r_edit.specs.Numbering.{node_count, region_numbered}
+use Rattle.r_edit.proofs.lemmas.Copies.{numbered-ops}
+use Rattle.r_edit.proofs.lemmas.Fits.{copies_count_the_same}
 use Rattle.r_edit.specs.Size.{IsResized, may_change_size}
 use Rattle.r_edit.proofs.lemmas.Exchanged.{exchanged_stays}
 use Rattle.r_edit.proofs.lemmas.Steps.{safe_changes_are_steps}

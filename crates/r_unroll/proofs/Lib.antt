@@ -11,5 +11,6 @@ mod Found
 mod Made
 mod Followed
 mod Nodes
--- What is passed on of the libraries below.
-pub use Rattle.r_copy.proofs as of_r_copy
+mod Loops
+mod Said
+mod AskedAt

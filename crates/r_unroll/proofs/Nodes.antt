@@ -3,12 +3,12 @@ use Rattle.std.specs.Prelude.{◌&&◌, ◌^◌, ◌<◌, ◌≤◌, nat_le, not
 use Rattle.std.proofs.Common.{◌≡◌, ℕ, ◌+◌, ◌-◌, Bool, true, false, cond, None, Some, refl, ap, subst, arith}
 use Rattle.std.proofs.lemmas.Bool.{and_parts}
 use Rattle.std.proofs.lemmas.Bool.Decides.{nat_tests}
-use Rattle.limits.specs.Limits.{most_loop_values}
+use Rattle.base.specs.Limits.{most_loop_values}
 use Rattle.g_graph.specs.Plain.{RegionTree, RegionTrees, no_regions, region_then}
 use Rattle.g_graph.specs.Count.{region_values}
 use Rattle.g_mean.specs.Copies.{IsClosed, AllClosed}
 use Rattle.r_edit.specs.Size.{may_change_size}
-use Rattle.r_copy.specs.Numbering.{node_count}
+use Rattle.r_edit.specs.Numbering.{node_count}
 use Rattle.r_unroll.specs.Edit.{only_body}
 use Rattle.r_unroll.specs.Rule.{region_loops, growth, may_unroll}
 

@@ -10,9 +10,9 @@ use Rattle.g_graph.specs.WellFormed.{all_of, distinct}
 use Rattle.g_graph.proofs.lemmas.Numbers.{Numbered}
 use Rattle.g_graph.proofs.lemmas.Splices.{nodes_ids-joined}
 use Rattle.g_graph.proofs.lemmas.Unique.{times, times_append, all_of_append, all_of_holds, counts_of_distinct}
-use Rattle.r_copy.specs.Numbering.{node_count, region_numbered}
+use Rattle.r_edit.specs.Numbering.{node_count, region_numbered}
 use Rattle.val_core.specs.Numbers.{numbers_from}
-use Rattle.r_copy.proofs.lemmas.Numbering.{copies_are_numbered, from-not-below, from-once, from-below, none-above}
+use Rattle.r_edit.proofs.lemmas.Numbering.{copies_are_numbered, from-not-below, from-once, from-below, none-above}
 use Rattle.r_unroll.specs.Rule.{stopping, unrolled}
 use Rattle.val_core.proofs.lemmas.Numbers.{length_numbers}
 

@@ -18,8 +18,8 @@ use Rattle.g_mean.proofs.lemmas.Splices.{joined-run}
 use Rattle.r_edit.specs.Origins.{origins_from}
 use Rattle.r_edit.proofs.lemmas.Consecutive.{all-from}
 use Rattle.r_edit.proofs.lemmas.Loops.{then-number, at-port, gives-results, chosen-two}
-use Rattle.r_copy.specs.Numbering.{region_numbered}
-use Rattle.r_copy.proofs.lemmas.Copies.{numbered_copies_mean_the_same}
+use Rattle.r_edit.specs.Numbering.{region_numbered}
+use Rattle.r_edit.proofs.lemmas.Copies.{numbered_copies_mean_the_same}
 use Rattle.r_unroll.specs.Rule.{stopping, unrolled}
 use Rattle.r_unroll.specs.Laws.{second_turn, IsLoopRegion, UnrolledRegionsTakeTwoTurns}
 

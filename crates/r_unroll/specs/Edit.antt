@@ -6,7 +6,7 @@ use Rattle.g_graph.specs.declared.op.Origin.TheVariants.{Out}
 use Rattle.g_graph.specs.Plain.{RegionTree, region, NodeTree, node, RegionTrees, no_regions, region_then, results_of}
 use Rattle.g_graph.specs.Nodes.{node_at, node_set}
 use Rattle.r_edit.specs.Origins.{origins_from}
-use Rattle.r_copy.specs.Numbering.{node_count}
+use Rattle.r_edit.specs.Numbering.{node_count}
 use Rattle.r_unroll.specs.Rule.{followed_by, may_unroll}
 
 -- ---- the loop

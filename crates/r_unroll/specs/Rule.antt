@@ -1,7 +1,6 @@
 -- Unrolling: a turn of a loop becomes up to two of the turns before (Reissmann et al., RVSDG, 2020, of Theta nodes).
-use Rattle.std.specs.Prelude.{ℕ, suc, ◌+◌, ◌-◌, ◌*◌, ◌^◌, nat_le, not, ◌&&◌, ◌||◌, if◌then◌else◌}
-use Rattle.std.specs.Prelude.{Bool, false, List, [], ◌∷◌, length, Option, None, Some, option_map, option_and_then, is_some, unwrap_or}
-use Rattle.limits.specs.Limits.{most_loop_values}
+use Rattle.std.specs.Prelude.{ℕ, suc, ◌+◌, ◌-◌, ◌*◌, ◌^◌, nat_le, not, ◌&&◌, ◌||◌, if◌then◌else◌, Bool, false, List, [], ◌∷◌, length, Option, None, Some, option_map, option_and_then, is_some, unwrap_or}
+use Rattle.base.specs.Limits.{most_loop_values}
 use Rattle.g_graph.specs.declared.op.Kind.{Kind}
 use Rattle.g_graph.specs.declared.op.Op.TheVariants.{Const, Gamma, Theta}
 use Rattle.g_graph.specs.declared.op.Origin.{Origin}
@@ -15,7 +14,7 @@ use Rattle.g_graph.specs.Program.{lambda_values}
 use Rattle.g_graph.specs.Views.{same_op}
 use Rattle.r_edit.specs.Origins.{origins_from}
 use Rattle.r_edit.specs.Size.{may_change_size}
-use Rattle.r_copy.specs.Numbering.{node_count, region_numbered}
+use Rattle.r_edit.specs.Numbering.{node_count, region_numbered}
 
 -- ---- the loop
 

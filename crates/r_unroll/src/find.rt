@@ -1,18 +1,17 @@
 //! The loop that is unrolled.
 
 ghost use Rattle.std.specs.Prelude.{◌≡◌, ◌<◌, ◌+◌, ◌-◌, ◌^◌, nat_le, is_some, option_copied, IsTrue};
-ghost use Rattle.limits.specs.Limits.{most_loop_values};
+ghost use Rattle.base.specs.Limits.{most_loop_values};
 ghost use Rattle.g_graph.specs.Count.{region_values};
 ghost use Rattle.g_graph.specs.Plain.{regions_of};
 ghost use Rattle.r_edit.specs.Found.{region_found, node_found};
-ghost use Rattle.r_copy.specs.Numbering.{node_count};
+ghost use Rattle.r_edit.specs.Numbering.{node_count};
 ghost use Rattle.r_unroll.specs.Edit.{small_body, only_body, loop_body, loop_at};
 ghost use Rattle.r_unroll.specs.Rule.{region_loops, node_loops, growth, may_unroll, url_here};
 
+use base::MOST_LOOP_VALUES;
 use g_graph::{Node, Op, Region, node_at};
-use limits::MOST_LOOP_VALUES;
-use r_copy::{numbers_left, values_left};
-use r_edit::may_change_size;
+use r_edit::{may_change_size, numbers_left, values_left};
 
 /// The first loop of this number, in pre-order, in the region or one nested in it, that may be
 /// unrolled in a lambda of so many values whose next node has the number `next`: its region.

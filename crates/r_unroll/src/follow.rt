@@ -7,8 +7,8 @@ ghost use Rattle.g_graph.specs.Plain.{node, no_regions, regions_of};
 ghost use Rattle.r_unroll.specs.Edit.{only_followed, followed_at};
 ghost use Rattle.r_unroll.specs.Rule.{url_here, followed_by};
 
+use base::NoMemory;
 use g_graph::{Node, Op, Origin, Region, node_index};
-use no_memory::NoMemory;
 use smallvec::SmallVec;
 use std::alloc::Global;
 

@@ -1,20 +1,20 @@
 //! The rule at a node.
 
 ghost use Rattle.std.specs.Prelude.{◌≡◌, ◌<◌, ◌≤◌, ◌+◌, ◌^◌, IfOk, IfSome, option_map};
-ghost use Rattle.limits.specs.Limits.{most_loop_values};
+ghost use Rattle.base.specs.Limits.{most_loop_values};
 ghost use Rattle.g_graph.specs.declared.op.Op.TheVariants.{Theta};
 ghost use Rattle.g_graph.specs.Count.{region_values};
 ghost use Rattle.g_graph.specs.Plain.{node, no_regions, region_then, regions_of};
 ghost use Rattle.g_mean.specs.Copies.{IsClosed, AllClosed};
-ghost use Rattle.r_copy.specs.Numbering.{node_count};
+ghost use Rattle.r_edit.specs.Numbering.{node_count};
 ghost use Rattle.r_unroll.specs.Edit.{loop_numbers};
 ghost use Rattle.r_unroll.specs.Rule.{node_unrolled, unrolled};
 
 use crate::find::only_body;
 use crate::follow::follow;
 use crate::turn::second_turn;
+use base::NoMemory;
 use g_graph::{Node, Op, Origin, Region, copy_region};
-use no_memory::NoMemory;
 use smallvec::SmallVec;
 use std::alloc::Global;
 

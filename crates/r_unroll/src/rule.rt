@@ -11,10 +11,10 @@ ghost use Rattle.r_unroll.specs.Rule.{url_here, applies, url};
 use crate::find::can_unroll;
 use crate::follow::{follow_at, nothing};
 use crate::turn::turn_of;
+use base::NoMemory;
 use g_graph::{
     CanChange, Change, Lambda, Node, Origin, Region, can_change_lambda, change_lambda, values,
 };
-use no_memory::NoMemory;
 use std::alloc::Global;
 use std::mem;
 

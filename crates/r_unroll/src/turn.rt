@@ -2,7 +2,7 @@
 
 ghost use Rattle.std.specs.Prelude.{◌≡◌, ◌<◌, ◌≤◌, ◌+◌, ◌^◌, [], ◌∷◌, IfOk, length, IsTrue, is_some, option_map};
 ghost use Rattle.std.specs.declared.option.Option.TheVariants.{Some};
-ghost use Rattle.limits.specs.Limits.{most_loop_values};
+ghost use Rattle.base.specs.Limits.{most_loop_values};
 ghost use Rattle.g_graph.specs.declared.op.Origin.TheVariants.{Arg, Out};
 ghost use Rattle.g_graph.specs.Count.{region_values};
 ghost use Rattle.g_graph.specs.Plain.{node, no_regions};
@@ -10,15 +10,14 @@ ghost use Rattle.g_graph.specs.declared.op.Op.TheVariants.{Const};
 ghost use Rattle.g_mean.specs.Copies.{IsClosed};
 ghost use Rattle.r_edit.specs.Found.{region_found};
 ghost use Rattle.r_edit.specs.Origins.{origins_from};
-ghost use Rattle.r_copy.specs.Numbering.{node_count};
+ghost use Rattle.r_edit.specs.Numbering.{node_count};
 ghost use Rattle.r_unroll.specs.Edit.{loop_at, results_after, next_after};
 ghost use Rattle.r_unroll.specs.Rule.{stopping, second_turn_of};
 
 use crate::find::find_loop;
+use base::NoMemory;
 use g_graph::{Kind, Node, Op, Origin, Region};
-use no_memory::NoMemory;
-use r_copy::copy_numbered;
-use r_edit::{arguments, outputs_of};
+use r_edit::{arguments, copy_numbered, outputs_of};
 use smallvec::SmallVec;
 use std::alloc::Global;
 

@@ -20,10 +20,10 @@ use Rattle.g_graph.proofs.lemmas.Splices as splices
 use Rattle.g_graph.proofs.lemmas.Splices.{joined_assoc, nodes_of_append}
 use Rattle.g_graph.specs.WellFormed.{IsWellFormed}
 use Rattle.g_graph.proofs.lemmas.Nests.{regions_of_well_formed}
-use Rattle.r_copy.specs.g_mean.Copies.{is_argument, IsClosed, AllClosed, NodesRead}
-use Rattle.r_copy.proofs.of_g_mean.lemmas.Closed.{region-closed}
-use Rattle.r_walk_def.specs.Context.{joined_regions}
-use Rattle.r_walk_def.specs.Walk.{Part, Asked, Moved, origin_now, inputs_of_nodes, results_used, Walking, Cursor, WrittenNodes, stepped, unmoved, cursor_after, cursor_in, part_written, walk_nodes, walk_node, walk_region, walk_regions, open_at, open_region}
+use Rattle.g_mean.specs.Copies.{is_argument, IsClosed, AllClosed, NodesRead}
+use Rattle.g_mean.proofs.lemmas.Closed.{region-closed}
+use Rattle.r_walk.specs.Context.{joined_regions}
+use Rattle.r_walk.specs.Walk.{Part, Asked, Moved, origin_now, inputs_of_nodes, results_used, Walking, Cursor, WrittenNodes, stepped, unmoved, cursor_after, cursor_in, part_written, walk_nodes, walk_node, walk_region, walk_regions, open_at, open_region}
 use Rattle.r_walk.specs.Around.{AreWords, AreUses, IsAround}
 use Rattle.r_walk.specs.Asks.{said_of, walking, IsSound, AllSound, AreInnerClosed}
 use Rattle.r_walk.specs.declared.moves.Moves.{Moves}

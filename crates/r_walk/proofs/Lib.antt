@@ -1,3 +1,4 @@
 mod Along
 mod Sound
 mod Tables
+pub mod lemmas

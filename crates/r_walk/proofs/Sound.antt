@@ -11,7 +11,7 @@ use Rattle.g_graph.specs.Plain.{region, NodeTree, node, NodeTrees, no_nodes, nod
 use Rattle.g_graph.specs.Scope.{each_node}
 use Rattle.g_graph.specs.WellFormed.{some_of, distinct, every_region, every_in_nodes, every_in_regions, inputs_fit, inputs_are_last, node_has_one_state_each, has_its_regions, regions_fit, theta_has_states, has_its_width, has_its_object, node_fits, nodes_fit, results_are_last, returns_state, region_has_one_state_each, region_fits, IsWellFormed, well_formed, leaves_fit, body_fits, numbers_fit, all_of}
 use Rattle.g_graph.proofs.lemmas.Nests.{regions_of_well_formed}
-use Rattle.r_copy.proofs.of_g_mean.lemmas.Edits.{distinct-split}
+use Rattle.g_mean.proofs.lemmas.Edits.{distinct-split}
 use Rattle.r_walk.specs.Asks.{IsSound, AllSound, AreSoundNodes}
 
 -- ---- what a node's regions must fit

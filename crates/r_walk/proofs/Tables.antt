@@ -9,7 +9,7 @@ use Rattle.g_graph.specs.Nodes.{node_at, const_word}
 use Rattle.g_graph.specs.Plain.{NodeTree, NodeTrees, no_nodes, node_then, id_of}
 use Rattle.g_graph.specs.Scope.{same_origin}
 use Rattle.g_graph.specs.Splice.{joined_nodes}
-use Rattle.r_walk_def.specs.Walk.{is_in, results_used}
+use Rattle.r_walk.specs.Walk.{is_in, results_used}
 
 -- ---- words
 

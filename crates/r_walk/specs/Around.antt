@@ -8,7 +8,7 @@ use Rattle.g_graph.specs.Nodes.{node_at, const_word}
 use Rattle.g_graph.specs.Plain.{NodeTrees}
 use Rattle.r_walk.specs.declared.uses.Uses.{Uses}
 use Rattle.r_walk.specs.declared.words.Words.{Words}
-use Rattle.r_walk_def.specs.Walk.{is_in}
+use Rattle.r_walk.specs.Walk.{is_in}
 use Rattle.indexmap.specs.IndexMap.{get}
 use Rattle.indexmap.specs.IndexSet.{contains}
 

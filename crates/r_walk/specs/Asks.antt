@@ -7,12 +7,12 @@ use Rattle.g_graph.specs.declared.op.Origin.{Origin}
 use Rattle.g_graph.specs.declared.steps.Step.{Step}
 use Rattle.g_graph.specs.Ids.{region_ids, regions_ids}
 use Rattle.g_graph.specs.Plain.{RegionTree, NodeTree, node, NodeTrees, no_nodes, node_then, RegionTrees, no_regions, region_then, nodes_of, op_of, regions_in}
-use Rattle.r_copy.specs.g_mean.Copies.{AllClosed}
+use Rattle.g_mean.specs.Copies.{AllClosed}
 use Rattle.g_graph.specs.WellFormed.{distinct, every_region, every_in_regions, region_fits, regions_fit, theta_has_states}
 use Rattle.r_walk.specs.declared.rule.New.{New}
 use Rattle.r_walk.specs.declared.rule.Said.{Said}
 use Rattle.r_walk.specs.declared.rule.Said.TheVariants.{Stays, Becomes, Opened}
-use Rattle.r_walk_def.specs.Walk.{Part, stays, becomes, opened, Asked, Walking}
+use Rattle.r_walk.specs.Walk.{Part, stays, becomes, opened, Asked, Walking}
 
 -- what comes in the place of a node
 pub record Made : Type 0 where

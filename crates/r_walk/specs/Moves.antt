@@ -6,7 +6,7 @@ use Rattle.std.specs.Global.{Vec}
 use Rattle.g_graph.specs.declared.op.Origin.{Origin}
 use Rattle.g_graph.specs.declared.op.Origin.TheVariants.{Arg, Out}
 use Rattle.g_graph.specs.Splice.{args_to_inputs}
-use Rattle.r_walk_def.specs.Walk.{Moved, output_now}
+use Rattle.r_walk.specs.Walk.{Moved, output_now}
 use Rattle.r_walk.specs.declared.moves.Moves.{Moves}
 use Rattle.indexmap.specs.IndexMap.{get}
 

@@ -6,7 +6,7 @@ use Rattle.g_graph.specs.declared.steps.Step.{Step}
 use Rattle.g_graph.specs.Count.{node_values, nodes_values}
 use Rattle.g_graph.specs.Plain.{NodeTree, id_of, nodes_of}
 use Rattle.g_graph.specs.Splice.{joined_nodes}
-use Rattle.r_walk_def.specs.Walk.{Cursor, Walking, WrittenNodes, stepped}
+use Rattle.r_walk.specs.Walk.{Cursor, Walking, WrittenNodes, stepped}
 use Rattle.g_graph.specs.declared.op.Origin.{Origin}
 use Rattle.r_walk.specs.declared.moves.Moves.{Moves}
 use Rattle.r_walk.specs.declared.rule.New.{New}

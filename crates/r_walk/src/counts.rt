@@ -5,9 +5,9 @@ ghost use Rattle.g_graph.specs.Count.{saturated, region_values, nodes_values, re
 ghost use Rattle.g_graph.specs.Plain.{nodes_of, regions_of};
 ghost use Rattle.g_graph.specs.Signatures.{outputs_of};
 
+use base::NoMemory;
 use g_graph::{Node, Op, Region, first_args, op_outputs};
-use no_memory::NoMemory;
-use r_copy::values_left;
+use r_edit::values_left;
 
 /// The values of the lambda as it is now, and the number of its next node.
 #[derive(Drop)]

@@ -1,12 +1,10 @@
-//! A walk of a rule along the nodes of a lambda, which writes the new lambda and reads the old one.
+//! One walk over a lambda that tries a rule at each node.
 //! What it makes is exactly the defined walk.
 //! Always: the old nodes are only read, and a walk takes time n log n beside what the rule takes.
 #![tactic(auto)]
 
-// What is passed on of the libraries below.
-pub use r_copy;
-
 mod counts;
+pub mod laws;
 mod moves;
 mod rule;
 mod uses;

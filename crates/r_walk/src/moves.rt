@@ -4,9 +4,9 @@ ghost use Rattle.std.specs.Prelude.{◌≡◌, ◌==◌, ℕ, OnOk, if◌then◌
 ghost use Rattle.g_graph.specs.declared.op.Origin.TheVariants.{Out};
 ghost use Rattle.r_walk.specs.Moves.{output_in, origin_in};
 
+use base::NoMemory;
 use g_graph::{Origin, Redirect};
 use indexmap::IndexMap;
-use no_memory::NoMemory;
 use std::alloc::Global;
 
 /// What became of outputs of nodes of a region, by the number of the node.

@@ -2,13 +2,13 @@
 
 ghost use Rattle.std.specs.Prelude.{◌≡◌, IfOk};
 ghost use Rattle.g_graph.specs.Plain.{node, regions_of};
-ghost use Rattle.r_copy.specs.g_mean.Copies.{AllClosed};
+ghost use Rattle.g_mean.specs.Copies.{AllClosed};
 ghost use Rattle.r_walk.specs.Around.{IsAround};
 ghost use Rattle.r_walk.specs.Asks.{made_of, part_of, said_of, AreSoundIn};
 
 use crate::{Uses, Words};
+use base::NoMemory;
 use g_graph::{Node, Op, Origin, Region, Rule};
-use no_memory::NoMemory;
 use std::alloc::Global;
 
 /// What comes in the place of a node: nodes that are not walked, the origins that uses of its
@@ -53,7 +53,7 @@ pub trait WalkRule {
     ghost use Rattle.g_graph.specs.Plain.{NodeTrees};
     ghost use Rattle.g_graph.specs.declared.op.Origin.{Origin};
     ghost use Rattle.g_graph.specs.declared.steps.Rule.{Rule};
-    ghost use Rattle.r_walk_def.specs.Walk.{Asked};
+    ghost use Rattle.r_walk.specs.Walk.{Asked};
 
     ghost rule: { Self → Rule };
 

@@ -5,12 +5,12 @@ ghost use Rattle.g_graph.specs.declared.op.Origin.{Origin};
 ghost use Rattle.g_graph.specs.declared.op.Origin.TheVariants.{Out};
 ghost use Rattle.g_graph.specs.Plain.{nodes_of, nodes_in, results_of};
 ghost use Rattle.g_graph.specs.Scope.{same_origin};
-ghost use Rattle.r_walk_def.specs.Walk.{is_in, inputs_of_nodes, results_used};
+ghost use Rattle.r_walk.specs.Walk.{is_in, inputs_of_nodes, results_used};
 ghost use Rattle.r_walk.specs.Around.{uses_in, AreUses};
 
+use base::NoMemory;
 use g_graph::{Node, Origin, Region};
 use indexmap::IndexSet;
-use no_memory::NoMemory;
 use std::alloc::Global;
 
 /// The outputs that are used, each as its node's number and its port.

@@ -6,9 +6,9 @@ ghost use Rattle.g_graph.specs.Plain.{NodeTrees, nodes_of, no_nodes, node_then};
 ghost use Rattle.g_graph.specs.Splice.{joined_nodes};
 ghost use Rattle.r_walk.specs.Around.{word_in, AreWords};
 
+use base::NoMemory;
 use g_graph::{Node, Origin, const_word};
 use indexmap::IndexMap;
-use no_memory::NoMemory;
 use std::alloc::Global;
 
 /// The words of the nodes of a region that were written, by number: of a constant its word.

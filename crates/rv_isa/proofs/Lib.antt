@@ -1,3 +1,4 @@
 mod Decoded
 pub mod lemmas
 mod DecodedEncodes
+mod Hex

@@ -5,3 +5,4 @@ pub mod Registers
 pub mod RoundTrip
 pub mod WordParts
 pub mod Words
+pub mod Texts

@@ -1,6 +1,6 @@
 -- Globals in memory: where each stands, and its bytes with the addresses that its links name.
 use Rattle.std.specs.Prelude.{ℕ, ◌+◌, ◌-◌, Bool, not, if◌then◌else◌, List, [], ◌∷◌, ◌++◌, length, take, drop, replicate, slice_index}
-use Rattle.limits.specs.Limits.{counted_bytes}
+use Rattle.base.specs.Limits.{counted_bytes}
 use Rattle.elf_file.specs.Header.{word}
 use Rattle.g_graph.specs.declared.link.Link.{Link}
 use Rattle.g_graph.specs.Plain.{PlainDelta}

@@ -9,9 +9,9 @@ ghost use Rattle.rv_layout.specs.Conditions.{FitsMemory};
 
 use crate::Item;
 use crate::sizes::{global_room, items_size};
+use base::NoMemory;
 use elf_file::{PAGE, TEXT_AT};
 use g_graph::Delta;
-use no_memory::NoMemory;
 use std::alloc::Global;
 use std::marker::Model;
 

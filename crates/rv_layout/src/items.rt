@@ -14,7 +14,7 @@ use crate::addresses::{Addresses, FUNCTIONS_AT, stub_at};
 use crate::labels::labels_of;
 use crate::sequences::{call, load_address, push_code};
 use crate::sizes::{item_size, items_size};
-use no_memory::NoMemory;
+use base::NoMemory;
 use rv_isa::{Instr, JumpOffset, Reg};
 use std::alloc::{AllocError, Global};
 use std::collections::BTreeMap;

@@ -7,7 +7,7 @@ ghost use Rattle.rv_layout.specs.Items.{items_size, label_at};
 
 use crate::Item;
 use crate::sizes::{item_size, items_size};
-use no_memory::NoMemory;
+use base::NoMemory;
 use std::alloc::Global;
 use std::collections::BTreeMap;
 

@@ -15,9 +15,9 @@ use crate::addresses::{Addresses, addresses_of};
 use crate::globals::push_globals;
 use crate::items::push_functions;
 use crate::sequences::{push_code, push_get_stub, push_put_stub, push_start_code};
+use base::NoMemory;
 use elf_file::{Image, TEXT_AT};
 use g_graph::Delta;
-use no_memory::NoMemory;
 use rv_isa::Instr;
 use std::alloc::Global;
 

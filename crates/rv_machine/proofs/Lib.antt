@@ -1,10 +1,10 @@
+pub mod lemmas
 mod Access
 mod Bytes
 mod Decoded
 mod Examples
 mod Found
 mod HeldBlocks
-pub mod lemmas
 mod Loads
 mod Lookups
 mod Ports

@@ -1,3 +1,4 @@
+pub mod Nearer
 pub mod Codes
 pub mod RunLaws
 pub mod Standing

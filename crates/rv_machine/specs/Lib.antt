@@ -1,3 +1,5 @@
+pub mod Behaviour
+pub mod BehaviourLaws
 pub mod Block
 pub mod Blocks
 pub mod Endings

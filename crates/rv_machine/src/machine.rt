@@ -4,8 +4,8 @@ ghost use Rattle.std.specs.Prelude.{◌≡◌, ◌≢◌, ◌<◌, ◌%◌, ◌^
 
 use crate::memory::{EXECUTE, Memory, READ};
 use crate::stop::Ending;
+use base::NoMemory;
 use elf_file::ImageView;
-use no_memory::NoMemory;
 use rv_isa::{BranchOffset, Imm12, Reg};
 use std::alloc::Global;
 

@@ -3,7 +3,7 @@
 -- words; then the saved registers and the return address, up to a multiple of 16.
 use Rattle.std.specs.Prelude.{ℕ, suc, ◌+◌, ◌-◌, ◌*◌, ◌/◌, nat_le, nat_lt, Bool, ◌&&◌, if◌then◌else◌, List, min, take}
 use Rattle.std.specs.List.{sum_by}
-use Rattle.limits.specs.Limits.{counted_bytes}
+use Rattle.base.specs.Limits.{counted_bytes}
 use Rattle.g_graph.specs.Plain.{PlainObject}
 
 -- how many places are registers that a call keeps

@@ -5,3 +5,4 @@ pub mod Meaning
 pub mod Frame
 pub mod Views
 pub mod Laws
+pub mod Texts

@@ -1,8 +1,8 @@
 -- Linear code: instructions over names, with choices and loops as trees. A name is a number, numbered in the order of first
 -- writing; memory, input and output have none.
 use Rattle.std.specs.Prelude.{ℕ, List}
-use Rattle.g_graph.specs.val_core.declared.operation.Op1.{Op1}
-use Rattle.g_graph.specs.val_core.declared.operation.Op2.{Op2}
+use Rattle.val_core.specs.declared.operation.Op1.{Op1}
+use Rattle.val_core.specs.declared.operation.Op2.{Op2}
 use Rattle.g_graph.specs.Plain.{PlainObject}
 
 -- The target of an instruction comes first. Those without one are `store`, `clear`, `put` and `exit`.

@@ -1,15 +1,15 @@
 -- What linear code does within a bound, in the answers and events of the graph's meaning: names hold values, and memory and
 -- input go along. A loop's turn is counted at its label, afresh at each entrance, and a call runs at the bound below.
 use Rattle.std.specs.Prelude.{ℕ, zero, suc, ◌-◌, ◌%◌, ◌^◌, ◌==◌, Bool, false, if◌then◌else◌, List, [], ◌∷◌, ◌++◌, map, length, slice_get, slice_index_or, Option, None, Some}
-use Rattle.g_graph.specs.val_core.declared.values.Value.{Value}
-use Rattle.g_graph.specs.val_core.declared.values.Value.TheVariants.{Num, Bad}
-use Rattle.g_graph.specs.val_core.Values.{value1, value2}
-use Rattle.g_graph.specs.val_core.Memory.{Memory, pointers_equal, closed, cleared_at}
-use Rattle.g_graph.specs.val_core.Memory as mem
-use Rattle.g_graph.specs.val_core.Objects.{Addresses, address_in, opened}
-use Rattle.g_graph.specs.val_core.Events.{wrote, took}
-use Rattle.g_graph.specs.val_core.Answers.{Answer, Returned, Cut, Exited, Undefined, then_on, on_number, on_defined, active}
-use Rattle.g_graph.specs.val_core.Within.{Given}
+use Rattle.val_core.specs.declared.values.Value.{Value}
+use Rattle.val_core.specs.declared.values.Value.TheVariants.{Num, Bad}
+use Rattle.val_core.specs.Values.{value1, value2}
+use Rattle.val_core.specs.Memory.{Memory, pointers_equal, closed, cleared_at}
+use Rattle.val_core.specs.Memory as mem
+use Rattle.val_core.specs.Objects.{Addresses, address_in, opened}
+use Rattle.val_core.specs.Events.{wrote, took}
+use Rattle.val_core.specs.Answers.{Answer, Returned, Cut, Exited, Undefined, then_on, on_number, on_defined, active}
+use Rattle.val_core.specs.Within.{Given}
 use Rattle.g_graph.specs.Plain.{shapes_of}
 use Rattle.s_linear.specs.Linear.{Instr, const, undef, object_address, global_address, binary, unary, load, store, clear, equal_pointers, move, call, put, get, exit, Step, plain, choice, loop, Code, no_steps, step_then, Codes, no_codes, code_then, LinearFunction}
 

@@ -1,7 +1,7 @@
 //! The types of instructions, lines and linear code.
 
-use g_graph::val_core::{Op1, Op2};
 use std::marker::Model;
+use val_core::{Op1, Op2};
 
 /// An instruction over names. What it writes is its target; what it reads are names too.
 #[derive(Debug, Drop)]

@@ -1,3 +1,5 @@
 mod Examples
 mod ObjectLemmas
 pub mod lemmas
+mod ObjectSizes
+mod SizeLemmas

@@ -20,8 +20,8 @@ use crate::templates::{
     push_const, push_exit, push_get_byte, push_global_address, push_load, push_move,
     push_object_address, push_put_byte, push_store, push_unary,
 };
+use base::NoMemory;
 use g_graph::Object;
-use no_memory::NoMemory;
 use rv_isa::Reg;
 use rv_layout::Item;
 use s_linear::{Frame, Instr, Line, Linear, Places};

@@ -10,7 +10,7 @@ use Rattle.elf_file.specs.Image.{stack_size}
 use Rattle.rv_machine.specs.Machine.{State, Ending, exit, stack, stuck}
 use Rattle.rv_machine.specs.Run.{Hart, running, ended, RunResult, run}
 use Rattle.rv_machine.proofs.lemmas.RunLaws.{ended_stays, output_grows}
-use Rattle.rv_behaviour_def.specs.Behaviour.{shown, IsWithin, StopsWithin, IsKept}
+use Rattle.rv_machine.specs.Behaviour.{shown, IsWithin, StopsWithin, IsKept}
 use Rattle.s_select_keeps.specs.Functions.{Program, frame_sizes}
 use Rattle.s_select_keeps.specs.Kept.{program_at, ProgramIsKept}
 use Rattle.s_select_keeps.specs.Mains.{StartOutcome, MainRuns}

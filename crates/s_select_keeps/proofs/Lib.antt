@@ -1,3 +1,12 @@
+mod GlobalExamples
+mod Globals
+mod Addresses
+mod Bytes
+mod Leaves
+mod Segments
+mod Loaded
+mod Blocks
+mod GlobalValues
 mod Examples
 mod Runs
 pub mod lemmas

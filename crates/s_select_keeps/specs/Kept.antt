@@ -9,7 +9,7 @@ use Rattle.rv_machine.specs.Machine.{State}
 use Rattle.rv_machine.specs.Run.{run, running}
 use Rattle.s_linear.specs.Meaning.{finished}
 use Rattle.a_place.specs.Placed.{placed_calls}
-use Rattle.rv_behaviour_def.specs.Behaviour.{IsKept}
+use Rattle.rv_machine.specs.Behaviour.{IsKept}
 use Rattle.s_select_keeps.specs.Functions.{Program, ProgramCanRun, placed_by, frame_sizes}
 use Rattle.s_select_keeps.specs.Mains.{HasStart}
 use Rattle.s_select_keeps.specs.Relation.{Bases}

@@ -1,3 +1,4 @@
+pub mod Globals
 pub mod Standing
 pub mod Computed
 pub mod Relation

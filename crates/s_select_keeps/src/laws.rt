@@ -74,9 +74,9 @@ pub fn templates_load()
 pub fn templates_store()
     ensures { StoreIsDone }
 {
-    val_core::laws::memory::load_after_store();
-    val_core::laws::memory::load_elsewhere();
-    val_core::laws::memory::store_keeps_blocks();
+    val_laws::laws::memory::load_after_store();
+    val_laws::laws::memory::load_elsewhere();
+    val_laws::laws::memory::store_keeps_blocks();
 }
 
 /// So does that of a comparison of pointers, of blocks that live or with null.
@@ -88,9 +88,9 @@ pub fn templates_compare_pointers()
 pub fn templates_clear()
     ensures { ClearIsDone }
 {
-    val_core::laws::memory::load_after_clear();
-    val_core::laws::memory::clear_elsewhere();
-    val_core::laws::memory::clear_keeps_blocks();
+    val_laws::laws::memory::load_after_clear();
+    val_laws::laws::memory::clear_elsewhere();
+    val_laws::laws::memory::clear_keeps_blocks();
 }
 
 /// The template of an exit ends the run with the low byte of the status.
@@ -150,8 +150,8 @@ pub fn code_is_done()
     ensures { CodeIsDone }
 {
     instructions_are_done();
-    val_core::laws::memory::store_keeps_blocks();
-    val_core::laws::memory::clear_keeps_blocks();
+    val_laws::laws::memory::store_keeps_blocks();
+    val_laws::laws::memory::clear_keeps_blocks();
 }
 
 /// The arguments of a call are loaded into the argument registers, and what these registers hold is
@@ -190,10 +190,10 @@ pub fn functions_run()
     ensures { FunctionsRun }
 {
     instructions_are_done();
-    val_core::laws::memory::store_keeps_blocks();
-    val_core::laws::memory::clear_keeps_blocks();
-    val_core::laws::memory::new_blocks_keep_loads();
-    val_core::laws::memory::closed_blocks_keep_loads();
+    val_laws::laws::memory::store_keeps_blocks();
+    val_laws::laws::memory::clear_keeps_blocks();
+    val_laws::laws::memory::new_blocks_keep_loads();
+    val_laws::laws::memory::closed_blocks_keep_loads();
 }
 
 /// A function whose lines can be selected can run. The functions of a program that can be laid out

@@ -2,4 +2,5 @@
 //! Here is also the law that the machine keeps the behaviour of a program. Nothing in it runs.
 #![tactic(auto)]
 
+pub mod global_laws;
 pub mod laws;

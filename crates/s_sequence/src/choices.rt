@@ -14,8 +14,8 @@ use crate::ops::instr;
 use crate::ports::{Ports, ports_of};
 use crate::scope::Scope;
 use crate::writer::Writer;
+use base::NoMemory;
 use g_graph::{Op, Origin, op_outputs};
-use no_memory::NoMemory;
 use s_linear::Line;
 use std::alloc::Global;
 

@@ -11,8 +11,8 @@ ghost use Rattle.s_sequence.specs.Writer.{with_lines};
 use crate::moves::{write_back, write_moves};
 use crate::ports::{Ports, ports_of};
 use crate::writer::Writer;
+use base::NoMemory;
 use g_graph::Kind;
-use no_memory::NoMemory;
 use s_linear::Line;
 use std::alloc::Global;
 

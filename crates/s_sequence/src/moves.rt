@@ -13,8 +13,8 @@ ghost use Rattle.s_sequence.specs.Instructions.{exit_lines};
 use crate::ports::{Port, Ports};
 use crate::scope::Scope;
 use crate::writer::Writer;
+use base::NoMemory;
 use g_graph::{Kind, Origin};
-use no_memory::NoMemory;
 use std::alloc::Global;
 
 #[tactic(auto, using(crate::proofs::MoveLemmas::kept_none))]

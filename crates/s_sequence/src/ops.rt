@@ -7,8 +7,8 @@ ghost use Rattle.s_sequence.specs.Instructions.{instr_with};
 ghost use Rattle.s_sequence.specs.Scope.{name_in};
 
 use crate::scope::Scope;
+use base::NoMemory;
 use g_graph::{Op, Origin};
-use no_memory::NoMemory;
 use s_linear::Instr;
 use std::alloc::Global;
 

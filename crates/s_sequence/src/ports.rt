@@ -5,8 +5,8 @@ ghost use Rattle.std.specs.declared.option.Option.TheVariants.{Some};
 ghost use Rattle.s_sequence.specs.Sequence.{values_in};
 ghost use Rattle.s_sequence.specs.Ports.{ports_from, port_at, port_added, no_ports};
 
+use base::NoMemory;
 use g_graph::Kind;
-use no_memory::NoMemory;
 use smallvec::SmallVec;
 use std::alloc::Global;
 use std::marker::Model;

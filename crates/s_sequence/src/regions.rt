@@ -22,8 +22,8 @@ use crate::moves::{write_exits, write_moves};
 use crate::ports::{Ports, ports_of};
 use crate::scope::Scope;
 use crate::writer::Writer;
+use base::NoMemory;
 use g_graph::{Node, Op, Region};
-use no_memory::NoMemory;
 use s_linear::Line;
 use std::alloc::Global;
 

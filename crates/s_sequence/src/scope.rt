@@ -6,8 +6,8 @@ ghost use Rattle.s_sequence.specs.Ports.{port_at};
 ghost use Rattle.s_sequence.specs.Scope.{port_in, name_in};
 
 use crate::ports::{Port, Ports};
+use base::NoMemory;
 use g_graph::Origin;
-use no_memory::NoMemory;
 use std::alloc::Global;
 use std::collections::BTreeMap;
 

@@ -13,8 +13,8 @@ use crate::ops::name_at;
 use crate::regions::write_nodes;
 use crate::scope::Scope;
 use crate::writer::Writer;
+use base::NoMemory;
 use g_graph::{Lambda, Region};
-use no_memory::NoMemory;
 use s_linear::{Line, Linear};
 use std::alloc::Global;
 

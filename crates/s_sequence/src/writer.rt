@@ -6,7 +6,7 @@ ghost use Rattle.s_linear.specs.Lines.{done};
 ghost use Rattle.s_linear.specs.Views.{line_of};
 ghost use Rattle.s_sequence.specs.Writer.{with_lines};
 
-use no_memory::NoMemory;
+use base::NoMemory;
 use s_linear::{Instr, Line, Linear};
 use std::alloc::Global;
 use std::marker::Model;

@@ -1,7 +1,3 @@
-mod Blocks
-mod Cells
-mod Stores
-mod Lifetimes
 pub mod lemmas
 pub mod WholeWord
 mod Examples

@@ -2,7 +2,6 @@ pub mod Words
 pub mod Views
 pub mod Values
 pub mod Objects
-pub mod Sound
 pub mod Events
 pub mod Answers
 pub mod Refinement

@@ -4,7 +4,6 @@
 //! Always: an operation on sound values gives a sound value, and it takes no memory.
 #![tactic(auto)]
 
-pub mod laws;
 mod leaf;
 mod operation;
 mod values;

@@ -9,7 +9,7 @@ use lib.ListN.{get_elem?}
 use Rattle.atomic_table.proofs.Lists.{at_set, at_map, set_else, set_here, set_again}
 use Rattle.board_core.specs.declared.event.Event.{Event}
 use Rattle.board_core.specs.History.{History}
-use Rattle.board_laws.specs.OwnEvents.{worker_of, own_events}
+use Rattle.board_core.specs.OwnEvents.{worker_of, own_events}
 use Rattle.board_lock.specs.declared.view.View.{View}
 use Rattle.board_lock.specs.Rule.{Holds, IsBeginning, spent, ticket_of, program_weight, spents, IsTakenIn, IsKnown, IsPlaced}
 

@@ -6,7 +6,7 @@ use Rattle.c_lex.specs.Tokens.{lexed}
 use Rattle.c_ast.specs.Nonterminals.{Many}
 use Rattle.c_ast.specs.Productions.{Externals}
 use Rattle.c_ast.specs.Tree.{Tree, Nil}
-use Rattle.c_parse_laws.specs.Reader.{ReadResult, Read, read}
+use Rattle.c_ast.specs.Reader.{ReadResult, Read, read}
 use Rattle.c_lex.specs.Lexemes as clexLexemes
 use Rattle.c_lex.specs.Numbers as clexNumbers
 use Rattle.c_lex.specs.Quoted as clexQuoted
@@ -23,9 +23,9 @@ use Rattle.c_ast.specs.Operators as castOperators
 use Rattle.c_ast.specs.Spelling as castSpelling
 use Rattle.c_ast.specs.Statements as castStatements
 use Rattle.c_ast.specs.Terminals as castTerminals
-use Rattle.c_parse_laws.specs.Beginnings as cgrammarBeginnings
-use Rattle.c_parse_laws.specs.PredictSets as cgrammarPredictSets
-use Rattle.c_parse_laws.specs.Reader as cgrammarReader
+use Rattle.c_ast.specs.Beginnings as cgrammarBeginnings
+use Rattle.c_ast.specs.PredictSets as cgrammarPredictSets
+use Rattle.c_ast.specs.Reader as cgrammarReader
 use Rattle.c_typed.specs.Typed.{ProgramTree}
 use Rattle.c_check_def.specs.declared.refusal_kind.RefusalKind.{RefusalKind}
 use Rattle.c_check_def.specs.declared.refusal_kind.Quantity.{Quantity}

@@ -4,7 +4,7 @@ use Rattle.std.specs.Prelude.{slice_get, nat_lt, ◌==◌, ◌||◌, All, codes,
 use Rattle.std.specs.Option.{option_or}
 use Rattle.std.proofs.lemmas.Bool.{false≢true, and_parts}
 use Rattle.std.proofs.lemmas.Bool.Decides.{nat_tests}
-use Rattle.limits.specs.Limits.{most_tokens, most_functions, most_parameters, most_global_bytes, counted_bytes}
+use Rattle.base.specs.Limits.{most_tokens, most_functions, most_parameters, most_global_bytes, counted_bytes}
 use Rattle.c_lex.specs.declared.token.Token.{Token}
 use Rattle.c_ast.specs.Tree.{Tree, Node, Cons}
 use Rattle.c_ast.specs.Nonterminals as class
@@ -16,8 +16,8 @@ use Rattle.c_type.specs.Trees.{void_type}
 use Rattle.c_type.specs.Layout.{Definitions, is_complete, size, leaves}
 use Rattle.c_typed.specs.Typed.{FunctionTree, GlobalTree, VariableTree}
 use Rattle.c_typed.specs.WellTyped.{int, signature_of, params_of, WrittenFits, GlobalIsTyped, HasMain, IsWellTyped}
-use Rattle.c_operator_def.specs.Types.{same_type}
-use Rattle.c_operator_def.proofs.lemmas.SameType.{same_type-true}
+use Rattle.c_check_def.specs.Types.{same_type}
+use Rattle.c_check_def.proofs.lemmas.SameType.{same_type-true}
 use Rattle.c_check_scope.specs.Scopes.{Name, same_name, meaning}
 use Rattle.c_check_scope.specs.Names.{number_of, has_name, with_name}
 use Rattle.c_check_scope.proofs.lemmas.Latest.{same-self}

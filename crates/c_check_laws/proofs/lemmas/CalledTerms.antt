@@ -4,7 +4,7 @@ use Rattle.std.specs.Prelude.{slice_get, Option, None, Some, option_map, if◌th
 use Rattle.c_type.specs.Trees.{TypeTree, void_type}
 use Rattle.c_typed.specs.Typed.{ExprTree, expr}
 use Rattle.c_typed.specs.WellTyped.{Scope, int, ExprIsTyped}
-use Rattle.c_operator_def.specs.declared.operand.Operand.TheVariants.{Value}
+use Rattle.c_check_def.specs.declared.operand.Operand.TheVariants.{Value}
 use Rattle.c_check_scope.specs.Scopes.{Name, meaning}
 use Rattle.c_check_scope.specs.Names.{number_of}
 use Rattle.c_check_def.specs.declared.meaning.Meaning.{Meaning}

@@ -13,7 +13,7 @@ use Rattle.c_typed.specs.declared.operator.BinaryOp.{BinaryOp}
 use Rattle.c_typed.specs.declared.operator.BinaryOp.TheVariants as binary_op
 use Rattle.c_typed.specs.Typed.{ExprTree, expr, FormTree, constant, unary, binary, logical_and, logical_or, conditional}
 use Rattle.c_typed.specs.WellTyped.{Scope, type_of, ExprIsTyped, FormIsTyped}
-use Rattle.c_operator_def.specs.Constants.{has_constant_form, converted_word, unary_word, has_result, are_related, binary_word, truth_word, expr_word, form_word, constant_value}
+use Rattle.c_check_def.specs.Constants.{has_constant_form, converted_word, unary_word, has_result, are_related, binary_word, truth_word, expr_word, form_word, constant_value}
 use Rattle.c_check_laws.specs.TypedOperands.{IfSome}
 use Rattle.c_check_laws.proofs.Options.{and_then_holds, if_holds}
 

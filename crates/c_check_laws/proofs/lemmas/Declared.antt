@@ -9,7 +9,7 @@ use Rattle.c_type.specs.WellDefined.{AreDefinitions}
 use Rattle.c_typed.specs.Typed.{no_initial, DeclarationTree, VariableTree}
 use Rattle.c_typed.specs.WellTyped.{Scope, Jumps, extended, int, IsBegunAs, InitialFits, initial_scope}
 use Rattle.c_typed.specs.Objects.{object_by}
-use Rattle.c_operator_def.specs.Types.{is_scalar}
+use Rattle.c_check_def.specs.Types.{is_scalar}
 use Rattle.c_check_scope.specs.Scopes.{Name, meaning, is_declared}
 use Rattle.c_check_def.specs.declared.meaning.Meaning.TheVariants as means
 use Rattle.c_check_def.specs.declared.refusal_kind.RefusalKind.TheVariants.{Redeclared}

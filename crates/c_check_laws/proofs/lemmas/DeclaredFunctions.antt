@@ -6,7 +6,7 @@ use Rattle.c_type.specs.Trees.{TypeTree, void_type}
 use Rattle.c_type.specs.WellDefined.{AreDefinitions}
 use Rattle.c_typed.specs.Typed.{FunctionTree}
 use Rattle.c_typed.specs.WellTyped.{int, params_of}
-use Rattle.c_operator_def.proofs.lemmas.SameType.{same_type-true}
+use Rattle.c_check_def.proofs.lemmas.SameType.{same_type-true}
 use Rattle.c_check_scope.specs.Scopes.{Name, Scope, meaning, with_declaration}
 use Rattle.c_check_def.specs.declared.meaning.Meaning.{Meaning}
 use Rattle.c_check_def.specs.declared.meaning.Meaning.TheVariants as means

@@ -4,7 +4,7 @@ use Rattle.std.specs.Prelude.{Option, option_map}
 use Rattle.c_ast.specs.Productions as l
 use Rattle.c_ast.specs.Tree.{Tree, Node, Cons}
 use Rattle.c_typed.specs.WellTyped.{Scope}
-use Rattle.c_operator_def.specs.Operands.{operand_type}
+use Rattle.c_check_def.specs.OperandValues.{operand_type}
 use Rattle.c_check_def.specs.State.{State}
 use Rattle.c_check_def.specs.Leaves.{offset_of, name_of, selection_op_of, inc_dec_op_of, unary_op_of, binary_op_of, assign_op_of, characters_of}
 use Rattle.c_check_def.specs.Operands.{Term, Sequence, first_of}

@@ -7,7 +7,7 @@ use Rattle.c_type.specs.WellDefined.{AreDefinitions}
 use Rattle.c_typed.specs.Typed.{FunctionTree, VariableTree, ProgramTree}
 use Rattle.c_typed.specs.WellTyped.{IsScalar, VariableFits, VariablesFit, AreScalar, signature_of}
 use Rattle.c_typed.specs.Objects.{object_by}
-use Rattle.c_operator_def.specs.Types.{is_scalar}
+use Rattle.c_check_def.specs.Types.{is_scalar}
 use Rattle.c_check_scope.specs.Scopes.{Name, meaning, with_declaration}
 use Rattle.c_check_def.specs.declared.meaning.Meaning.{Meaning}
 use Rattle.c_check_def.specs.declared.meaning.Meaning.TheVariants as means

@@ -9,9 +9,9 @@ use Rattle.c_type.specs.Trees.{TypeTree, void_type, scalar_type, pointer_to, arr
 use Rattle.c_type.specs.Layout.{IsLaidOut}
 use Rattle.c_typed.specs.Typed.{ExprTree}
 use Rattle.c_typed.specs.WellTyped.{type_of}
-use Rattle.c_operator_def.specs.declared.operand.Operand.{Operand}
-use Rattle.c_operator_def.specs.Operands.{value_of}
-use Rattle.c_operator_def.specs.Conversions.{may_convert, converted, converts}
+use Rattle.c_check_def.specs.declared.operand.Operand.{Operand}
+use Rattle.c_check_def.specs.OperandValues.{value_of}
+use Rattle.c_check_def.specs.Conversions.{may_convert, converted, converts}
 use Rattle.c_check_scope.specs.Scopes.{Name, meaning, is_declared, with_declaration}
 use Rattle.c_check_def.specs.declared.meaning.Meaning.TheVariants as means
 use Rattle.c_check_def.specs.declared.refusal_kind.RefusalKind.TheVariants.{Redeclared, BadInitialiser}

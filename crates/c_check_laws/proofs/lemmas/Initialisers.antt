@@ -17,7 +17,7 @@ use Rattle.c_type.specs.Layout.{Definitions, is_complete, scalar_size, size, lea
 use Rattle.c_type.specs.WellDefined.{AreDefinitions}
 use Rattle.c_typed.specs.Typed.{ExprTree, ElementTrees, no_elements, value_then, characters_then}
 use Rattle.c_typed.specs.WellTyped.{Scope, IsScalar, type_of, ExprIsTyped, HasLeaf, AreCharactersAt, ElementsFit}
-use Rattle.c_operator_def.specs.declared.operand.Operand.{Operand}
+use Rattle.c_check_def.specs.declared.operand.Operand.{Operand}
 use Rattle.c_check_def.specs.declared.refusal_kind.RefusalKind.TheVariants.{NotConstant, BadInitialiser}
 use Rattle.c_check_def.specs.State.{State, breaks_if, broken_at, if_some, pure}
 use Rattle.c_check_def.specs.Leaves.{offset_of, begin_of, characters_of, characters_by}

@@ -8,8 +8,8 @@ use Rattle.c_ast.specs.Productions as l
 use Rattle.c_ast.specs.Tree.{Tree, Node, Cons}
 use Rattle.c_typed.specs.Typed.{ItemTrees, GroupTrees, no_groups, group_then}
 use Rattle.c_typed.specs.WellTyped.{Scope, Jumps, AreStatements, ItemsAreTyped, GroupsAreTyped, all_cases, defaults, AreWords, IsNotAmong, AreDistinct}
-use Rattle.c_operator_def.specs.Operands.{value_of}
-use Rattle.c_operator_def.specs.Constants.{constant_value}
+use Rattle.c_check_def.specs.OperandValues.{value_of}
+use Rattle.c_check_def.specs.Constants.{constant_value}
 use Rattle.c_check_def.specs.declared.refusal_kind.RefusalKind.{RefusalKind}
 use Rattle.c_check_def.specs.declared.refusal_kind.RefusalKind.TheVariants.{NotConstant, BadLabel}
 use Rattle.c_check_def.specs.State.{State, breaks_if, or_broken}

@@ -12,7 +12,7 @@ use Rattle.c_type.specs.Layout.{Definitions, is_complete, size, leaves_at}
 use Rattle.c_type.specs.WellDefined.{AreDefinitions}
 use Rattle.c_typed.specs.Typed.{VariableTree, ElementTrees, no_elements, value_then, characters_then, initial_elements}
 use Rattle.c_typed.specs.WellTyped.{Scope, IsScalar, IsBegunAs, ElementsFit, InitialFits}
-use Rattle.c_operator_def.specs.Types.{is_scalar}
+use Rattle.c_check_def.specs.Types.{is_scalar}
 use Rattle.c_check_scope.specs.Scopes.{Name, Scopes, same_name, meaning, with_declaration}
 use Rattle.c_check_def.specs.declared.meaning.Meaning.{Meaning}
 use Rattle.c_check_def.specs.declared.meaning.Meaning.TheVariants as means

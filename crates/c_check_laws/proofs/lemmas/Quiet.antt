@@ -12,10 +12,10 @@ use Rattle.c_ast.specs.Tree.{Tree, Node, Cons}
 use Rattle.c_type.specs.Trees.{TypeTree}
 use Rattle.c_typed.specs.Typed as typed
 use Rattle.c_typed.specs.Typed.{place, local, global, at, member, ElementTrees, StmtTree}
-use Rattle.c_operator_def.specs.declared.operand.Operand.{Operand}
-use Rattle.c_operator_def.specs.declared.operand.Operand.TheVariants.{Place, Value}
-use Rattle.c_operator_def.specs.Operands.{is_assignable}
-use Rattle.c_operator_def.specs.Operators.{selected_tag}
+use Rattle.c_check_def.specs.declared.operand.Operand.{Operand}
+use Rattle.c_check_def.specs.declared.operand.Operand.TheVariants.{Place, Value}
+use Rattle.c_check_def.specs.OperandValues.{is_assignable}
+use Rattle.c_check_def.specs.Operators.{selected_tag}
 use Rattle.c_check_scope.specs.Scopes.{Name, is_declared}
 use Rattle.c_check_scope.specs.Names.{number_of}
 use Rattle.c_check_scope.specs.Members.{member_number}

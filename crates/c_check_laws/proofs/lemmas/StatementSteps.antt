@@ -6,7 +6,7 @@ use Rattle.c_ast.specs.Tree.{Tree, Node, Cons}
 use Rattle.c_type.specs.Trees.{TypeTree}
 use Rattle.c_typed.specs.Typed as typed
 use Rattle.c_typed.specs.Typed.{ElementTrees, StmtTree}
-use Rattle.c_operator_def.specs.declared.operand.Operand.{Operand}
+use Rattle.c_check_def.specs.declared.operand.Operand.{Operand}
 use Rattle.c_check_scope.specs.Scopes.{Name}
 use Rattle.c_check_def.specs.declared.dimension.Dimension.{Dimension}
 use Rattle.c_check_def.specs.declared.meaning.Meaning.{Meaning}

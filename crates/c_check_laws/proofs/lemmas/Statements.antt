@@ -11,11 +11,11 @@ use Rattle.c_typed.specs.Typed.{ExprTree, StmtTree, ItemTrees, no_items, stmt_th
 use Rattle.c_typed.specs.WellTyped as well
 use Rattle.c_typed.specs.WellTyped.{Scope, extended, IsScalar, IsPromoted, IsBegunAs, type_of, ExprIsTyped, OptionalIsTyped, IsOptionalCondition, InitialFits, initial_scope, AreStatements, StmtIsTyped, ItemsAreTyped}
 use Rattle.c_typed.specs.StmtViews.{optional_of}
-use Rattle.c_operator_def.specs.declared.operand.Operand.{Operand}
-use Rattle.c_operator_def.specs.Operands.{value_of}
-use Rattle.c_operator_def.specs.Types.{is_unsigned}
-use Rattle.c_operator_def.specs.Conversions.{converts, may_convert, converted}
-use Rattle.c_operator_def.specs.Operators.{condition_of, plus_by}
+use Rattle.c_check_def.specs.declared.operand.Operand.{Operand}
+use Rattle.c_check_def.specs.OperandValues.{value_of}
+use Rattle.c_check_def.specs.Types.{is_unsigned}
+use Rattle.c_check_def.specs.Conversions.{converts, may_convert, converted}
+use Rattle.c_check_def.specs.Operators.{condition_of, plus_by}
 use Rattle.c_check_def.specs.declared.refusal_kind.RefusalKind.TheVariants.{BadOperands, BadReturn, BadJump}
 use Rattle.c_check_def.specs.State.{Variable, State, or_broken, if_some}
 use Rattle.c_check_def.specs.Leaves.{offset_of, begin_of}

@@ -5,7 +5,7 @@ use Rattle.c_type.specs.Trees.{TypeTree, void_type}
 use Rattle.c_typed.specs.Typed.{VariableTree}
 use Rattle.c_typed.specs.WellTyped.{Signature, Scope, int}
 use Rattle.c_typed.specs.Objects.{object_by}
-use Rattle.c_operator_def.specs.Types.{is_scalar}
+use Rattle.c_check_def.specs.Types.{is_scalar}
 use Rattle.c_check_scope.specs.Scopes.{Name, meaning}
 use Rattle.c_check_scope.specs.Names.{number_of}
 use Rattle.c_check_def.specs.declared.meaning.Meaning.TheVariants as means

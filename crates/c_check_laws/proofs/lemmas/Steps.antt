@@ -12,10 +12,10 @@ use Rattle.c_ast.specs.Productions as l
 use Rattle.c_ast.specs.Tree.{Tree, Node, Nil, Cons}
 use Rattle.c_type.specs.Trees.{TypeTree}
 use Rattle.c_typed.specs.Typed.{place, local, global, at, member}
-use Rattle.c_operator_def.specs.declared.operand.Operand.{Operand}
-use Rattle.c_operator_def.specs.declared.operand.Operand.TheVariants.{Place, Value}
-use Rattle.c_operator_def.specs.Operands.{operand_type, is_assignable}
-use Rattle.c_operator_def.specs.Operators.{selected_tag}
+use Rattle.c_check_def.specs.declared.operand.Operand.{Operand}
+use Rattle.c_check_def.specs.declared.operand.Operand.TheVariants.{Place, Value}
+use Rattle.c_check_def.specs.OperandValues.{operand_type, is_assignable}
+use Rattle.c_check_def.specs.Operators.{selected_tag}
 use Rattle.c_check_scope.specs.Scopes.{Name}
 use Rattle.c_check_scope.specs.Names.{number_of}
 use Rattle.c_check_scope.specs.Members.{member_number}

@@ -3,7 +3,7 @@ use Rattle.std.proofs.Common.{◌≡◌, ◌≤◌, ◌<◌, inl, inr, ℕ, suc,
 use Rattle.std.specs.Prelude.{not, nat_le, Option, None, Some, option_map, option_and_then, is_some, if◌then◌else◌}
 use Rattle.std.proofs.lemmas.Bool.{false≢true}
 use Rattle.std.proofs.lemmas.Bool.Decides.{nat_tests}
-use Rattle.limits.specs.Limits.{most_type_bytes}
+use Rattle.base.specs.Limits.{most_type_bytes}
 use Rattle.c_ast.specs.Productions as l
 use Rattle.c_ast.specs.Tree.{Tree, Node, Cons}
 use Rattle.c_type.specs.Trees.{TypeTree}

@@ -17,12 +17,12 @@ use Rattle.c_type.specs.Trees.{TypeTree}
 use Rattle.c_typed.specs.Typed as typed
 use Rattle.c_typed.specs.Typed.{ExprTree, PlaceTree, place, local, global, member, exprs_of, VariableTree}
 use Rattle.c_typed.specs.WellTyped.{Scope, int, HasAddress, types_of, place_type, ExprIsTyped, ExprsAreTyped, PlaceIsTyped}
-use Rattle.c_operator_def.specs.declared.operand.Operand.{Operand}
-use Rattle.c_operator_def.specs.declared.operand.Operand.TheVariants.{Place, Value}
-use Rattle.c_operator_def.specs.Operands.{value_of, is_assignable}
-use Rattle.c_operator_def.specs.Conversions.{converts}
-use Rattle.c_operator_def.specs.Operators.{binary_typed, unary_typed, conditional_typed, index_typed, selected_tag, member_typed, cast_typed, size_typed}
-use Rattle.c_operator_def.specs.Assignments.{assigned_typed, step_typed}
+use Rattle.c_check_def.specs.declared.operand.Operand.{Operand}
+use Rattle.c_check_def.specs.declared.operand.Operand.TheVariants.{Place, Value}
+use Rattle.c_check_def.specs.OperandValues.{value_of, is_assignable}
+use Rattle.c_check_def.specs.Conversions.{converts}
+use Rattle.c_check_def.specs.Operators.{binary_typed, unary_typed, conditional_typed, index_typed, selected_tag, member_typed, cast_typed, size_typed}
+use Rattle.c_check_def.specs.Assignments.{assigned_typed, step_typed}
 use Rattle.c_check_scope.specs.Scopes.{Name, meaning}
 use Rattle.c_check_scope.specs.Members.{member_number}
 use Rattle.c_check_def.specs.declared.meaning.Meaning.{Meaning}

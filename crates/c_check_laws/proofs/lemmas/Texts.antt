@@ -3,7 +3,7 @@ use Rattle.std.proofs.Common.{◌≡◌, ℕ, true, false, List, [], ◌∷◌, 
 use Rattle.std.specs.Prelude.{Option, Some, option_map}
 use Rattle.c_ast.specs.Productions as l
 use Rattle.c_ast.specs.Tree.{Tree, Node, Nil, Cons}
-use Rattle.c_operator_def.specs.Operands.{operand_type}
+use Rattle.c_check_def.specs.OperandValues.{operand_type}
 use Rattle.c_check_scope.specs.Scopes.{Name}
 use Rattle.c_check_def.specs.State.{Global, State}
 use Rattle.c_check_def.specs.Leaves.{offset_of, begin_of, name_of, selection_op_of, inc_dec_op_of, unary_op_of, binary_op_of, assign_op_of, characters_of, count_of}

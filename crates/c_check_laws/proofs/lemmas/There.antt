@@ -11,11 +11,11 @@ use Rattle.c_ast.specs.declared.operator.AssignOp.{AssignOp}
 use Rattle.c_type.specs.Trees.{TypeTree}
 use Rattle.c_typed.specs.Typed as typed
 use Rattle.c_typed.specs.Typed.{ExprTree, place, local, global}
-use Rattle.c_operator_def.specs.declared.operand.Operand.{Operand}
-use Rattle.c_operator_def.specs.declared.operand.Operand.TheVariants.{Place, Value}
-use Rattle.c_operator_def.specs.Operands.{is_assignable}
-use Rattle.c_operator_def.specs.Operators.{binary_typed, unary_typed, conditional_typed, index_typed, selected_tag, member_typed, cast_typed, size_typed}
-use Rattle.c_operator_def.specs.Assignments.{assigned_typed, step_typed}
+use Rattle.c_check_def.specs.declared.operand.Operand.{Operand}
+use Rattle.c_check_def.specs.declared.operand.Operand.TheVariants.{Place, Value}
+use Rattle.c_check_def.specs.OperandValues.{is_assignable}
+use Rattle.c_check_def.specs.Operators.{binary_typed, unary_typed, conditional_typed, index_typed, selected_tag, member_typed, cast_typed, size_typed}
+use Rattle.c_check_def.specs.Assignments.{assigned_typed, step_typed}
 use Rattle.c_check_scope.specs.Scopes.{Name, meaning}
 use Rattle.c_check_scope.specs.Names.{number_of}
 use Rattle.c_check_scope.specs.Members.{member_number}

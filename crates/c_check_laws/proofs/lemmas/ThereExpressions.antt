@@ -12,7 +12,7 @@ use Rattle.c_ast.specs.Terminals as terminal
 use Rattle.c_ast.specs.Grammar as grammar
 use Rattle.c_ast.specs.Tree.{Tree, Leaf, Node, Nil, Cons}
 use Rattle.c_type.specs.Trees.{TypeTree}
-use Rattle.c_operator_def.specs.Operands.{operand_type}
+use Rattle.c_check_def.specs.OperandValues.{operand_type}
 use Rattle.c_check_def.specs.declared.refusal_kind.RefusalKind.TheVariants.{NotConstant}
 use Rattle.c_check_def.specs.State.{MaybeType, State, if_some}
 use Rattle.c_check_def.specs.Leaves.{offset_of, begin_of, name_of, punct_by, selection_op_of, inc_dec_op_of, unary_op_of, binary_op_of, assign_op_of, count_of}

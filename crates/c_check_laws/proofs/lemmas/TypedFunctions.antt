@@ -12,7 +12,7 @@ use Rattle.c_typed.specs.Typed.{VariableTree}
 use Rattle.c_typed.specs.WellTyped as well
 use Rattle.c_typed.specs.WellTyped.{int, IsScalarOrVoid, ItemsAreTyped, signature_of, scope_of, FunctionIsTyped}
 use Rattle.c_typed.specs.Objects.{object_by}
-use Rattle.c_operator_def.specs.Types.{is_scalar}
+use Rattle.c_check_def.specs.Types.{is_scalar}
 use Rattle.c_check_scope.specs.Scopes.{Name}
 use Rattle.c_check_def.specs.State.{MaybeType, Global, Variable, State}
 use Rattle.c_check_def.specs.Statements.{Jumps, items}

@@ -3,10 +3,10 @@ use Rattle.c_typed.specs.StmtViews.{items_of, groups_of}
 use Rattle.c_ast.specs.Expressions.{list_tree}
 use Rattle.c_ast.specs.Statements.{stmt_tree, groups_tree}
 use Rattle.c_check_def.specs.Statements.{next_group, in_switch, groups, statement}
-use Rattle.c_check_arm.specs.c_check_clause.Clauses.{subject_at}
-use Rattle.c_check_arm.proofs.lemmas.Arms.{arm_value, arm_return}
-use Rattle.c_check_arm.proofs.lemmas.Items.{switch-made}
-use Rattle.c_check_arm.specs.Parts.{jumps_of}
+use Rattle.c_check_expression.specs.Clauses.{subject_at}
+use Rattle.c_check_statement.proofs.lemmas.Arms.{arm_value, arm_return}
+use Rattle.c_check_statement.proofs.lemmas.Items.{switch-made}
+use Rattle.c_check_statement.specs.Parts.{jumps_of}
 use Rattle.c_check_statement.proofs.LoopLemmas.{items-first, items-begun, items-grow, items-go, stmts-first, stmts-begun, stmts-grow, stmts-go, groups-begun, groups-grow}
 use Rattle.c_check_statement.proofs.+statement.Goals as goal
 

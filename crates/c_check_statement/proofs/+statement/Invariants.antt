@@ -3,7 +3,7 @@ use Rattle.c_ast.specs.Statements.{items_tree, stmts_tree, groups_tree}
 use Rattle.c_typed.specs.StmtViews.{items_of, groups_of}
 use Rattle.c_check_def.specs.Declarators.{items_joined}
 use Rattle.c_check_def.specs.Statements.{next_group, items, groups}
-use Rattle.c_check_arm.specs.Parts.{jumps_of}
+use Rattle.c_check_statement.specs.Parts.{jumps_of}
 use Rattle.c_check_statement.proofs.+statement.Given as goal
 
 abbrev pub invariant-blocks::items-loop-x : goal.invariant-blocks::items-loop-x

@@ -2,7 +2,7 @@
 use Rattle.std.proofs.Common.{◌≡◌, ℕ, zero, suc, Bool, true, false, List, [], ◌∷◌, Option, Some, None, refl, sym, ap, ◌-◌, ◌<◌, ◌≤◌, ◌+◌, Err, arith, ◌∙◌, IsSome, if◌then◌else◌, eq-eqb}
 use Rattle.c_lex.specs.declared.keyword.Keyword.{Keyword}
 use Rattle.c_lex.specs.declared.keyword.Keyword.TheVariants as w
-use Rattle.c_lex.specs.declared.name.Name.{Name}
+use Rattle.base.specs.declared.name.Name.{Name}
 use Rattle.std.specs.Option.{option_and_then}
 use Rattle.c_lex.specs.declared.punct.Punct.{Punct}
 use Rattle.c_lex.specs.declared.punct.Punct.TheVariants as m
@@ -14,8 +14,8 @@ use Rattle.c_ast.specs.Nodes.{node, mark, word, name, none_of}
 use Rattle.c_ast.specs.Terminals.{Terminal, Mark, ThisKeyword, AnyName, SignKeyword, is, mark_number, keyword_number}
 use Rattle.c_ast.specs.Tree.{Tree, Leaf, Node, Cons}
 use Rattle.c_ast.proofs.lemmas.Lists.{grows}
-use Rattle.c_parse_laws.specs.Reader.{ReadResult, Read, SyntaxError, OutOfFuel, token, and_then, read, step, first, begun, one, children, turns, goes_on, later}
-use Rattle.c_parse_laws.specs.PredictSets.{head, at, start, next, begins_repeated}
+use Rattle.c_ast.specs.Reader.{ReadResult, Read, SyntaxError, OutOfFuel, token, and_then, read, step, first, begun, one, children, turns, goes_on, later}
+use Rattle.c_ast.specs.PredictSets.{head, at, start, next, begins_repeated}
 use Rattle.c_ast.specs.Nonterminals.{Nonterminal, Many}
 use Rattle.c_ast.specs.Grammar.{symbols_of, rule, repeated}
 use Rattle.c_ast.specs.Productions.{Repeated, More, Stars}

@@ -1,6 +1,6 @@
 -- Short forms for the trees of the worked rows.
 use Rattle.std.specs.Prelude.{ℕ, Bool, true, false, List, []}
-use Rattle.c_type.specs.val_core.declared.operation.Op2.{Op2}
+use Rattle.val_core.specs.declared.operation.Op2.{Op2}
 use Rattle.c_type.specs.declared.scalar.Scalar.TheVariants as scalar
 use Rattle.c_type.specs.Trees.{TypeTree, scalar_type, pointer_to}
 use Rattle.c_type.specs.Layout.{Definitions}

@@ -7,7 +7,7 @@ use Rattle.g_graph.specs.Plain.{PlainOptimised}
 use Rattle.s_linear.specs.declared.frame.CodeForm.{CodeForm}
 use Rattle.rv_layout.specs.declared.item.Item.{Item}
 use Rattle.rv_layout.specs.Layout.{item_lists}
-use Rattle.cc_emit_def.specs.Image.{function_items, lambdas_of}
+use Rattle.cc_emit.specs.Image.{function_items, lambdas_of}
 
 module _ (form : CodeForm) {X : Type 0} (read : X → PlainOptimised) where
   abbrev items_to : List X → List (List Item)

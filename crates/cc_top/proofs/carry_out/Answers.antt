@@ -4,7 +4,7 @@ use Rattle.cc_command.specs.Command.{Command, accept, build, run, generate, chec
 use Rattle.cc_watch.specs.Rows.{PlainRow}
 use Rattle.cc_top.specs.Ends.{Ends}
 use Rattle.cc_report.specs.Outcome.{text_of as line_of}
-use Rattle.cc_outside.specs.Outside.{Outside}
+use Rattle.cc_io.specs.Outside.{Outside}
 use Rattle.cc_report.specs.declared.outcome.Outcome.TheVariants.{NoMemory}
 use Rattle.cc_io.proofs.lemmas.Prepends.{prepend-none}
 use Rattle.cc_top.proofs.carry_out.Goals as goal

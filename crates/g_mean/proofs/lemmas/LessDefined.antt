@@ -12,7 +12,7 @@ use Rattle.val_core.specs.Answers.{Answer, Returned, Exited, on_number, on_defin
 use Rattle.val_core.specs.Objects.{Addresses, opened, address_in}
 use Rattle.val_core.proofs.lemmas.Values.{keeps_less_defined1, keeps_less_defined2, keeps_sound1, keeps_sound2}
 use Rattle.val_core.proofs.lemmas.Objects.{opened_is_sound, addresses_are_sound}
-use Rattle.val_core.proofs.lemmas.Sound.{load_is_sound, store_is_sound, clear_is_sound, closed_is_sound}
+use Rattle.val_laws.proofs.lemmas.Sound.{load_is_sound, store_is_sound, clear_is_sound, closed_is_sound}
 use Rattle.g_graph.specs.declared.op.Op.{Op}
 use Rattle.g_graph.specs.declared.op.Op.TheVariants.{Const, Undef, Local, Delta, Bin, Un, Load, Store, Clear, PtrEq, Put, Exit, Get}
 use Rattle.g_mean.specs.Data.{Datum, val, memory, input, at_port, value_of, value_at, on_memory, on_input, with_memory}

@@ -7,7 +7,7 @@ use Rattle.g_graph.specs.WellFormed.{all_of}
 use Rattle.g_graph.proofs.lemmas.Unique.{all_of_append}
 use Rattle.s_linear.specs.Linear.{Instr, Step, plain, choice, loop, Code, no_steps, step_then, Codes, no_codes, code_then, LinearFunction}
 use Rattle.s_linear.specs.Lines.{Line, enter, leave, done, branch_not_zero, branch_zero, branch_equal, jump, label, counted, step_labels, code_labels, codes_labels, last_labels, LinesOf, branches, last_lines, labelled, before_last, choice_lines, step_lines, code_lines, codes_lines, marks, goes_to, lines}
-use Rattle.g_graph.specs.val_core.Numbers.{numbers_from}
+use Rattle.val_core.specs.Numbers.{numbers_from}
 
 -- whether a number is below another, as 1 or 0
 abbrev under : (k n : ℕ) → ℕ

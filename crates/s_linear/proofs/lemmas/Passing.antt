@@ -5,7 +5,7 @@ use Rattle.g_graph.specs.WellFormed.{all_of}
 use Rattle.g_graph.proofs.lemmas.Unique.{all_of_append}
 use Rattle.s_linear.specs.Linear.{Step, plain, choice, loop, Code, no_steps, step_then, Codes, no_codes, code_then, LinearFunction}
 use Rattle.s_linear.specs.Lines.{Line, enter, leave, done, branch_not_zero, branch_zero, branch_equal, jump, label, counted, step_labels, code_labels, last_from, others_from, LinesOf, branches, last_lines, labelled, before_last, choice_lines, step_lines, code_lines, codes_lines, lines}
-use Rattle.g_graph.specs.val_core.Numbers.{numbers_from}
+use Rattle.val_core.specs.Numbers.{numbers_from}
 
 pub length_codes : (last others : ℕ) (cs : Codes) → length (codes_lines last others cs) ≡ counted cs
 length_codes last others no_codes = refl

@@ -3,7 +3,7 @@ use Rattle.std.proofs.lemmas.List.{length-map, take_all}
 use Rattle.s_linear.specs.Lines.{lines}
 use Rattle.s_linear.specs.Views.{line_of}
 use Rattle.a_place.specs.Places.{name_count}
-use Rattle.a_share_def.specs.Marks.{marks}
+use Rattle.a_place.specs.Marks.{marks}
 use Rattle.a_share.specs.Sound.{IsSound}
 use Rattle.a_share.specs.Walked.{IsWalkOf}
 use Rattle.a_share.specs.Tables.{by_depth, depth_in}

@@ -3,7 +3,7 @@ use Rattle.std.proofs.Common.{◌≡◌, ◌≤◌, ◌+◌, ◌*◌, ℕ, suc, 
 use Rattle.std.specs.BTreeSet.{contains}
 use Rattle.std.specs.Ordering.{nat_cmp}
 use Rattle.s_linear.specs.Views.{line_of}
-use Rattle.a_share_def.specs.Share.{Names}
+use Rattle.a_place.specs.Share.{Names}
 use Rattle.s_linear.specs.Linear.{Codes}
 use Rattle.a_share.specs.Rows.{Row, end_label}
 use Rattle.a_share.specs.Walking.{IsAt, HasRoom, RowStands, ChoiceStands}

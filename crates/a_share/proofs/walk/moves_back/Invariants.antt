@@ -3,7 +3,7 @@ use Rattle.std.proofs.Common.{◌≡◌, ◌≤◌, ◌<◌, ℕ, Bool, List, ma
 use Rattle.s_linear.specs.Linear.{Instr}
 use Rattle.s_linear.specs.Lines.{done}
 use Rattle.s_linear.specs.Views.{line_of}
-use Rattle.a_share_def.specs.Share.{Names}
+use Rattle.a_place.specs.Share.{Names}
 use Rattle.a_share.specs.Bounds.{need_at, needed_now}
 use Rattle.a_share.specs.Rows.{StandAt}
 use Rattle.a_share.specs.Walking.{HasRoom}

@@ -3,7 +3,7 @@ use Rattle.std.specs.Prelude.{Option, Some, None}
 use Rattle.std.proofs.lemmas.List.{length-map, length-replicate}
 use Rattle.s_linear.specs.Lines.{lines}
 use Rattle.s_linear.specs.Views.{line_of}
-use Rattle.a_share_def.specs.Marks.{marks}
+use Rattle.a_place.specs.Marks.{marks}
 use Rattle.a_share.specs.Bounds.{bounds_of}
 use Rattle.a_share.specs.Pairs.{IsMadeOf}
 use Rattle.a_share.specs.Walking.{AreFresh, AreWalked, leave_of}

@@ -1,5 +1,5 @@
 use Rattle.std.proofs.Common.{◌≤◌, vec_capacity}
-use Rattle.limits.specs.Limits.{most_jobs}
+use Rattle.base.specs.Limits.{most_jobs}
 use Rattle.board_tests.proofs.crew.run_bare.Given as goal
 
 abbrev pub invariant-loop-index : goal.invariant-loop-index

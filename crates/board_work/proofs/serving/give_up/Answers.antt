@@ -1,7 +1,7 @@
 use Rattle.std.proofs.Common.{None, [], ◌∷◌, ◌++◌, sym, ap, ◌∙◌, subst}
 use Rattle.board_core.specs.Calls.{SomebodyStopped}
 use Rattle.board_core.specs.declared.event.Event.TheVariants.{Stop}
-use Rattle.board_laws.specs.OwnEvents.{held_from}
+use Rattle.board_core.specs.OwnEvents.{held_from}
 use Rattle.board_lock.specs.Seats.{sitting}
 use Rattle.board_work.proofs.SeatLemmas.{has-stopped}
 use Rattle.board_work.proofs.serving.give_up.Goals as goal

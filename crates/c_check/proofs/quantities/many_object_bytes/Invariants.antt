@@ -1,5 +1,5 @@
 use Rattle.std.proofs.Common.{◌≡◌, drop}
-use Rattle.limits.specs.Limits.{most_object_bytes}
+use Rattle.base.specs.Limits.{most_object_bytes}
 use Rattle.c_check_def.specs.declared.refusal_kind.Quantity.TheVariants.{ObjectBytes}
 use Rattle.c_check_def.specs.Limits.{first_above, object_bytes}
 use Rattle.c_check.proofs.quantities.many_object_bytes.Given as goal

@@ -1,5 +1,5 @@
 use Rattle.std.proofs.Common.{◌≡◌, drop}
-use Rattle.limits.specs.Limits.{most_parameters}
+use Rattle.base.specs.Limits.{most_parameters}
 use Rattle.c_check_def.specs.declared.refusal_kind.Quantity.TheVariants.{Parameters}
 use Rattle.c_check_def.specs.Limits.{first_above}
 use Rattle.c_check.proofs.quantities.many_parameters.Given as goal

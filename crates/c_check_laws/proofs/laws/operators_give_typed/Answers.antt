@@ -2,7 +2,7 @@ use Rattle.std.specs.Prelude.{◌≡◌, Option, None, Some}
 use Rattle.c_type.specs.Trees.{TypeTree}
 use Rattle.c_typed.specs.Typed.{ExprTree}
 use Rattle.c_typed.specs.WellTyped.{Scope, ExprIsTyped, type_of}
-use Rattle.c_operator_def.specs.Conversions.{converts}
+use Rattle.c_check_def.specs.Conversions.{converts}
 use Rattle.c_check_laws.specs.TypedOperands.{IfSome}
 use Rattle.c_check_laws.proofs.Values.{ValueOf, value_typed, converts_typed}
 use Rattle.c_check_laws.proofs.Binary.{binary_is_typed, conditional_is_typed}

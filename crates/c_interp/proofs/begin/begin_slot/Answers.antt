@@ -1,6 +1,6 @@
 use Rattle.std.proofs.Common.{take, ◌-◌, ◌∷◌, ◌++◌, ◌∙◌, [], refl, sym, ap}
 use Rattle.c_mean.specs.Statements.{newest_written}
-use Rattle.c_interp_value.specs.Operators.{used_value}
+use Rattle.c_interp_store.specs.Operators.{used_value}
 use Rattle.c_interp_def.specs.Configurations.{goes_on_at, state_of, with_operands}
 use Rattle.c_interp_def.specs.declared.task.Slot.TheVariants.{Holds}
 use Rattle.c_interp_def.specs.StmtTasks as stmt

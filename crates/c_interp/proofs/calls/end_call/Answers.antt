@@ -2,7 +2,7 @@ use Rattle.std.proofs.Common.{◌==◌, ◌∙◌, ap}
 use Rattle.c_typed.specs.Typed.{ProgramTree}
 use Rattle.c_mean.specs.Expressions.{value_or_none}
 use Rattle.c_mean.specs.Run.{value_at_end}
-use Rattle.c_interp_expand.specs.TaskViews.{flow_of}
+use Rattle.c_interp_answer.specs.TaskViews.{flow_of}
 use Rattle.c_interp.proofs.CallSteps.{end_call_done, end_call_of_none}
 use Rattle.c_interp.proofs.calls.end_call.Goals as goal
 

@@ -5,7 +5,7 @@ use Rattle.c_typed.specs.Objects.{access_width}
 use Rattle.c_mean.specs.Run.{params_in_scope, params_stored}
 use Rattle.c_interp_store.specs.declared.store.Store.{Store}
 use Rattle.c_interp_def.specs.Configurations.{variables_of, object_sizes}
-use Rattle.c_interp_expand.specs.TaskViews.{slots_of}
+use Rattle.c_interp_answer.specs.TaskViews.{slots_of}
 use Rattle.c_interp.proofs.Arguments.{AreTaken, object_taken, object_not_taken, value_taken, all_taken, object_in_scope, value_in_scope, all_in_scope}
 use Rattle.c_interp.proofs.calls.take_arguments.Goals as goal
 use Rattle.c_interp.proofs.calls.take_arguments.Goals.{then-p+else-not-store+in_ok-push, else-p+in_ok-push-2}

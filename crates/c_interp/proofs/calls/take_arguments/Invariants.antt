@@ -5,7 +5,7 @@ use Rattle.val_core.specs.Objects.{address_in}
 use Rattle.c_mean.specs.Run.{params_in_scope, params_stored}
 use Rattle.c_interp_store.specs.Holding.{Opened, Holds}
 use Rattle.c_interp_def.specs.Configurations.{variables_of, object_sizes}
-use Rattle.c_interp_expand.specs.TaskViews.{slots_of}
+use Rattle.c_interp_answer.specs.TaskViews.{slots_of}
 use Rattle.c_interp.proofs.calls.take_arguments.Given as goal
 
 abbrev pub invariant-loop-i : goal.invariant-loop-i

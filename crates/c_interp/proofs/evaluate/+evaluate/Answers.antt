@@ -7,7 +7,7 @@ use Rattle.c_typed.specs.ExprViews.{form_of, place_form_of}
 use Rattle.c_typed.specs.Typed.{ExprTree, FormTree, expr, read, unary, binary, logical_and, logical_or, conditional, assign, inc_dec, call, at, member, exprs_of}
 use Rattle.c_typed.specs.WellTyped.{type_of}
 use Rattle.c_interp_answer.proofs.Arms.{form_in, whole}
-use Rattle.c_interp_expand.proofs.Pushed.{count_is}
+use Rattle.c_interp_answer.proofs.Pushed.{count_is}
 use Rattle.c_interp_def.specs.declared.task.ExprTask.TheVariants.{Evaluate, PassEach, UseIt, Call, MemberAt, StoreSlot, StoreAt, LoadFrom}
 use Rattle.c_interp_def.specs.declared.task.Task.TheVariants.{OfExpr}
 use Rattle.c_interp_def.specs.ExprTasks as task

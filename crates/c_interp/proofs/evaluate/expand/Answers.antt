@@ -2,7 +2,7 @@ use Rattle.std.proofs.Common.{◌++◌, ◌∙◌, ap}
 use Rattle.c_interp_def.specs.ExprTasks.{expr_tasks, expr_task_run}
 use Rattle.c_interp_def.specs.ExprTasks as task
 use Rattle.c_interp_def.specs.Laws.{of_exprs}
-use Rattle.c_interp_expand.specs.TaskViews.{tasks_of, slots_of}
+use Rattle.c_interp_answer.specs.TaskViews.{tasks_of, slots_of}
 use Rattle.c_interp.specs.Machines.{config_of}
 use Rattle.c_interp.proofs.Steps.{put_step}
 use Rattle.c_interp.proofs.Statements.{expr-expands}

@@ -1,6 +1,6 @@
 use Rattle.std.proofs.Common.{sym, ap}
 use Rattle.val_core.specs.Objects.{address_in}
-use Rattle.c_interp_expand.specs.TaskViews.{slots_of}
+use Rattle.c_interp_answer.specs.TaskViews.{slots_of}
 use Rattle.c_interp.proofs.Layouts.{sizes-laid}
 use Rattle.c_interp.proofs.known.scope_of.Goals as goal
 

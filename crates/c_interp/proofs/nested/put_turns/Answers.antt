@@ -2,7 +2,7 @@ use Rattle.std.proofs.Common.{◌∙◌, sym}
 use Rattle.c_interp_def.specs.StmtTasks as stmt
 use Rattle.c_interp_def.specs.StmtTasks.{turns_tasks, stmt_task_run}
 use Rattle.c_interp_def.proofs.StmtLaws.{turns-expand}
-use Rattle.c_interp_expand.specs.TaskViews.{tasks_of}
+use Rattle.c_interp_answer.specs.TaskViews.{tasks_of}
 use Rattle.c_interp.specs.Machines.{config_of}
 use Rattle.c_interp.proofs.Steps.{undefined_step}
 use Rattle.c_interp.proofs.Statements.{loops, no-turns, turn_put, turn_cut}

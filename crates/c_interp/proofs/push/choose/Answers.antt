@@ -1,6 +1,6 @@
 use Rattle.std.proofs.Common.{◌∷◌, ◌∙◌, [], ap}
 use Rattle.std.specs.Prelude.{Some}
-use Rattle.c_interp_expand.specs.TaskViews.{task_of}
+use Rattle.c_interp_answer.specs.TaskViews.{task_of}
 use Rattle.c_interp.specs.Machines.{config_of}
 use Rattle.c_interp.specs.Steps.{choose_run, tasks_do}
 use Rattle.c_interp.proofs.Steps.{undefined_step, same_step}

@@ -1,6 +1,5 @@
-use Rattle.std.proofs.Common.{◌∷◌, ◌++◌, ◌∙◌, [], refl, ap}
-use Rattle.std.proofs.Common.{append_assoc}
-use Rattle.c_interp_expand.specs.TaskViews.{task_of, tasks_of}
+use Rattle.std.proofs.Common.{◌∷◌, ◌++◌, ◌∙◌, [], refl, ap, append_assoc}
+use Rattle.c_interp_answer.specs.TaskViews.{task_of, tasks_of}
 use Rattle.c_interp.specs.Steps.{tasks_do}
 use Rattle.c_interp.proofs.Steps.{tasks-last, put_step}
 use Rattle.c_interp.proofs.push.put2.Goals as goal

@@ -1,5 +1,5 @@
 use Rattle.std.proofs.Common.{[], ◌∷◌}
-use Rattle.c_interp_expand.specs.TaskViews.{task_of}
+use Rattle.c_interp_answer.specs.TaskViews.{task_of}
 use Rattle.c_interp.specs.Steps.{tasks_do}
 use Rattle.c_interp.proofs.AtOnce.{put_then}
 use Rattle.c_interp.proofs.push.put3.Goals as goal

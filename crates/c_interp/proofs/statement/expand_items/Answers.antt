@@ -1,13 +1,11 @@
-use Rattle.std.proofs.Common.{◌∙◌, sym}
-use Rattle.std.proofs.Common.{ap₂}
+use Rattle.std.proofs.Common.{◌∙◌, sym, ap₂}
 use Rattle.std.proofs.lemmas.List.{length-map}
 use Rattle.c_interp_def.specs.Laws.{normally}
-use Rattle.c_interp_def.specs.StmtTasks.{items_tasks, tasks_run}
-use Rattle.c_interp_expand.specs.TaskViews.{slot_of}
+use Rattle.c_interp_def.specs.StmtTasks.{items_tasks, tasks_run, stmt_task_run}
+use Rattle.c_interp_answer.specs.TaskViews.{slot_of}
 use Rattle.c_interp_def.proofs.StmtLaws.{items-expand}
 use Rattle.c_typed.specs.StmtViews.{items_of}
 use Rattle.c_interp_def.specs.StmtTasks as stmt
-use Rattle.c_interp_def.specs.StmtTasks.{stmt_task_run}
 use Rattle.c_interp.specs.Machines.{config_of}
 use Rattle.c_interp.proofs.Steps.{put_step}
 use Rattle.c_interp.proofs.statement.expand_items.Goals as goal

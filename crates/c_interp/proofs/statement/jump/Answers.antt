@@ -1,5 +1,5 @@
 use Rattle.std.proofs.Common.{refl}
-use Rattle.c_interp_expand.specs.TaskViews.{flow_of}
+use Rattle.c_interp_answer.specs.TaskViews.{flow_of}
 use Rattle.c_interp_def.specs.StmtTasks as stmt
 use Rattle.c_interp_def.specs.StmtTasks.{stmt_task_run}
 use Rattle.c_interp.proofs.StmtSteps.{flow_step}

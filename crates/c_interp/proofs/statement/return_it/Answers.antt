@@ -1,6 +1,6 @@
 use Rattle.std.proofs.Common.{refl, sym}
 use Rattle.c_mean.specs.Statements.{returned}
-use Rattle.c_interp_value.specs.Operators.{used_value}
+use Rattle.c_interp_store.specs.Operators.{used_value}
 use Rattle.c_interp_def.specs.Configurations.{reaches, with_operands}
 use Rattle.std.specs.Prelude.{Some}
 use Rattle.c_interp_def.specs.StmtTasks as stmt

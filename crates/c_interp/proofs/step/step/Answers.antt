@@ -1,7 +1,7 @@
 use Rattle.std.proofs.Common.{refl, arith}
 use Rattle.std.specs.Prelude.{Ok}
 use Rattle.c_interp_def.specs.StmtTasks.{of_expr}
-use Rattle.c_interp_expand.specs.TaskViews.{expr_task_of, flow_of}
+use Rattle.c_interp_answer.specs.TaskViews.{expr_task_of, flow_of}
 use Rattle.c_interp.specs.Steps.{task_from}
 use Rattle.c_interp.proofs.Ports.{skipped-expr, stays_step, quiet_at}
 use Rattle.c_interp.proofs.Dispatch.{task_as, expr_normally}

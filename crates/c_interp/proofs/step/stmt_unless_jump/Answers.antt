@@ -1,4 +1,4 @@
-use Rattle.c_interp_expand.specs.TaskViews.{stmt_task_of}
+use Rattle.c_interp_answer.specs.TaskViews.{stmt_task_of}
 use Rattle.c_interp.proofs.Ports.{skipped-stmt, stays_step}
 use Rattle.c_interp.proofs.Dispatch.{stmt_normally}
 use Rattle.c_interp.proofs.step.stmt_unless_jump.Goals as goal

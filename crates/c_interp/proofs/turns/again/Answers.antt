@@ -1,7 +1,7 @@
 use Rattle.std.proofs.Common.{◌∙◌, sym, ap}
 use Rattle.c_interp_def.specs.Configurations.{reaches}
 use Rattle.c_interp_def.proofs.StmtLaws.{again-expands}
-use Rattle.c_interp_expand.specs.TaskViews.{flow_of}
+use Rattle.c_interp_answer.specs.TaskViews.{flow_of}
 use Rattle.c_interp_def.specs.StmtTasks as stmt
 use Rattle.c_interp_def.specs.StmtTasks.{again_tasks, handler_run}
 use Rattle.c_interp.specs.Steps.{tasks_do}

@@ -2,7 +2,7 @@ use Rattle.std.proofs.Common.{refl, ap}
 use Rattle.std.specs.Prelude.{Ok}
 use Rattle.c_mean.specs.Statements.{broke}
 use Rattle.c_interp_def.specs.declared.task.Flow.TheVariants.{Normal}
-use Rattle.c_interp_expand.specs.TaskViews.{flow_of}
+use Rattle.c_interp_answer.specs.TaskViews.{flow_of}
 use Rattle.c_interp_def.specs.StmtTasks as stmt
 use Rattle.c_interp_def.specs.StmtTasks.{handler_run}
 use Rattle.c_interp.specs.Machines.{config_of}

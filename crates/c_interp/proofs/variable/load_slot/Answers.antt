@@ -1,5 +1,5 @@
 use Rattle.std.proofs.Common.{◌∙◌, ap}
-use Rattle.c_interp_expand.specs.TaskViews.{slots_of}
+use Rattle.c_interp_answer.specs.TaskViews.{slots_of}
 use Rattle.c_interp.specs.Steps.{slot_read}
 use Rattle.std.specs.Prelude.{slice_get}
 use Rattle.c_interp.proofs.StmtSteps.{slot_step}

@@ -1,4 +1,4 @@
-use Rattle.c_operator_def.proofs.lemmas.SameType.{same_type-is}
+use Rattle.c_check_def.proofs.lemmas.SameType.{same_type-is}
 use Rattle.c_operator.proofs.conversion.same_type.Goals as goal
 
 pub returns : goal.returns

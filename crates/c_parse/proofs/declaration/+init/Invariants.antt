@@ -1,6 +1,6 @@
 use Rattle.std.proofs.Common.{◌≡◌, ◌-◌, ◌+◌, ◌*◌}
 use Rattle.c_ast.specs.Nonterminals.{InitItems}
-use Rattle.c_parse_laws.specs.Reader.{read, turns}
+use Rattle.c_ast.specs.Reader.{read, turns}
 use Rattle.c_parse.specs.Made.{inits_tree}
 use Rattle.c_parse.proofs.declaration.+init.Given as goal
 

@@ -2,7 +2,7 @@ use Rattle.std.proofs.Common.{◌≡◌, ◌-◌}
 use Rattle.c_ast.specs.Declarations.{more_declarators}
 use Rattle.c_ast.specs.Nonterminals.{Many}
 use Rattle.c_ast.specs.Productions as production
-use Rattle.c_parse_laws.specs.Reader.{read, turns}
+use Rattle.c_ast.specs.Reader.{read, turns}
 use Rattle.c_parse.proofs.declaration.more_declarators.Given as goal
 
 abbrev pub invariant-loop-of-read_list : goal.invariant-loop-of-read_list

@@ -1,4 +1,4 @@
-use Rattle.c_parse_laws.specs.PredictSets.{head}
+use Rattle.c_ast.specs.PredictSets.{head}
 use Rattle.c_parse.proofs.DeclarationLemmas.{more-some}
 use Rattle.c_parse.proofs.declaration.sees_more.Goals as goal
 

@@ -4,7 +4,7 @@ use Rattle.c_ast.specs.Expressions.{next}
 use Rattle.c_ast.specs.Nodes.{many}
 use Rattle.c_ast.specs.Nonterminals.{Many}
 use Rattle.c_ast.specs.Productions as production
-use Rattle.c_parse_laws.specs.Reader.{read, turns}
+use Rattle.c_ast.specs.Reader.{read, turns}
 use Rattle.c_parse.proofs.external.more_params.Given as goal
 
 abbrev pub invariant-loop-of-read_list : goal.invariant-loop-of-read_list

@@ -3,7 +3,7 @@ use Rattle.c_ast.specs.Externals.{external_tree}
 use Rattle.c_ast.specs.Nodes.{many}
 use Rattle.c_ast.specs.Nonterminals.{Many}
 use Rattle.c_ast.specs.Productions as production
-use Rattle.c_parse_laws.specs.Reader.{read, turns}
+use Rattle.c_ast.specs.Reader.{read, turns}
 use Rattle.c_parse.proofs.external.unit.Given as goal
 
 abbrev pub invariant-loop-turn : goal.invariant-loop-turn

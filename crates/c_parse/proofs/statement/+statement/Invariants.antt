@@ -2,7 +2,7 @@ use Rattle.std.proofs.Common.{◌≡◌, ◌-◌, ◌+◌, ◌*◌}
 use Rattle.c_ast.specs.Nonterminals.{Many}
 use Rattle.c_ast.specs.Productions as production
 use Rattle.c_ast.specs.Statements.{items_tree, groups_tree, stmts_tree}
-use Rattle.c_parse_laws.specs.Reader.{read, turns}
+use Rattle.c_ast.specs.Reader.{read, turns}
 use Rattle.c_parse.proofs.statement.+statement.Given as goal
 
 abbrev pub decreases-block : goal.decreases-block

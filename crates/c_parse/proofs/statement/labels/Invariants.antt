@@ -2,7 +2,7 @@ use Rattle.std.proofs.Common.{◌≡◌, ◌-◌}
 use Rattle.c_ast.specs.Statements.{labels_tree}
 use Rattle.c_ast.specs.Nonterminals.{Many}
 use Rattle.c_ast.specs.Productions as production
-use Rattle.c_parse_laws.specs.Reader.{read, turns}
+use Rattle.c_ast.specs.Reader.{read, turns}
 use Rattle.c_parse.proofs.statement.labels.Given as goal
 
 abbrev pub invariant-loop-of-read_list : goal.invariant-loop-of-read_list

@@ -1,8 +1,8 @@
 use Rattle.std.proofs.Common.{sym}
 use Rattle.c_ast.specs.Expressions.{expr_tree}
 use Rattle.c_ast.specs.Grammar.{allowed, rule}
-use Rattle.c_parse_laws.specs.Reader.{production_of}
-use Rattle.c_parse_laws.specs.PredictSets as predict
+use Rattle.c_ast.specs.Reader.{production_of}
+use Rattle.c_ast.specs.PredictSets as predict
 use Rattle.c_parse_tokens.specs.Operands.{suffix_production}
 use Rattle.c_parse_tokens.proofs.OperandLemmas.{includes-operand, left_low}
 use Rattle.c_parse_tokens.proofs.operators.takes.Goals as goal

@@ -1,5 +1,5 @@
 use Rattle.std.proofs.Common.{◌≡◌, ◌+◌, ◌^◌, ◌<◌, ◌≤◌, ap, ◌∙◌, subst, arith}
-use Rattle.limits.specs.Limits.{most_type_bytes}
+use Rattle.base.specs.Limits.{most_type_bytes}
 use Rattle.c_type.specs.Layout.{align, rounded_up, size}
 use Rattle.c_type.specs.LaidUpTo.{LaidUpTo}
 use Rattle.c_type.proofs.MemberLemmas.{at-member}

@@ -3,8 +3,8 @@ use Rattle.std.specs.Arc.{arc_value}
 use Rattle.std.proofs.lemmas.Result.{IfOk-weaker}
 use Rattle.elf_file.specs.Written.{file_of}
 use Rattle.rv_layout.specs.Layout.{item_lists}
-use Rattle.cc_emit_def.specs.Image.{file_of_program, lambdas_of}
-use Rattle.cc_emit_def.proofs.lemmas.Lambdas.{is_function}
+use Rattle.cc_emit.specs.Image.{file_of_program, lambdas_of}
+use Rattle.cc_emit.proofs.lemmas.Lambdas.{is_function}
 use Rattle.cc_emit.specs.Items.{image_of_items}
 use Rattle.cc_compile.proofs.typed.file_with.Goals as goal
 

@@ -1,8 +1,8 @@
 use Rattle.std.proofs.Common.{sym, ap, subst, ◌∙◌}
 use Rattle.std.specs.Arc.{arc_value}
 use Rattle.g_graph.specs.Plain.{PlainOptimised}
-use Rattle.cc_emit_def.specs.Image.{function_items}
-use Rattle.cc_emit_def.specs.Laws.{IsFunction}
+use Rattle.cc_emit.specs.Image.{function_items}
+use Rattle.cc_emit.specs.Laws.{IsFunction}
 use Rattle.cc_emit.proofs.lemmas.Answered.{answer_at, items_more}
 use Rattle.cc_emit.proofs.functions.all_items.Goals as goal
 

@@ -1,7 +1,7 @@
 use Rattle.std.proofs.Common.{◌≡◌, map, take}
 use Rattle.std.specs.Arc.{arc_value}
 use Rattle.rv_layout.specs.Layout.{item_lists}
-use Rattle.cc_emit_def.specs.Image.{function_items, lambdas_of}
+use Rattle.cc_emit.specs.Image.{function_items, lambdas_of}
 use Rattle.cc_emit.proofs.functions.all_items.Given as goal
 
 abbrev pub invariant-loop-answer : goal.invariant-loop-answer

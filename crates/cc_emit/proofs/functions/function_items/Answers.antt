@@ -1,6 +1,6 @@
 use Rattle.std.proofs.Common.{◌≡◌, ap, subst, ◌∙◌, IfOk}
 use Rattle.g_graph.specs.Plain.{PlainLambda}
-use Rattle.cc_emit_def.proofs.lemmas.Lambdas.{frame_fits_here, can_select_here, items_are}
+use Rattle.cc_emit.proofs.lemmas.Lambdas.{frame_fits_here, can_select_here, items_are}
 use Rattle.cc_emit.proofs.functions.function_items.Goals as goal
 
 pub frame-frame-requires : goal.frame-frame-requires

@@ -6,8 +6,8 @@ use Rattle.s_linear.specs.Lines.{names_below}
 use Rattle.s_sequence.specs.Sequence.{sequenced}
 use Rattle.a_place.specs.Places.{places}
 use Rattle.s_linear.specs.declared.frame.CodeForm.{CodeForm}
-use Rattle.cc_emit_def.specs.Image.{places_of}
-use Rattle.cc_emit_def.proofs.lemmas.Lambdas.{names_fit}
+use Rattle.cc_emit.specs.Image.{places_of}
+use Rattle.cc_emit.proofs.lemmas.Lambdas.{names_fit}
 use Rattle.cc_emit.proofs.functions.places.Goals as goal
 
 pub place-requires : goal.place-requires

@@ -2,10 +2,10 @@ use Rattle.std.proofs.Common.{◌≡◌, ap, subst, ◌∙◌, map, IfOk}
 use Rattle.std.specs.Arc.{arc_value}
 use Rattle.elf_file.specs.Image.{sections_of}
 use Rattle.rv_layout.specs.Layout.{item_lists}
-use Rattle.cc_emit_def.specs.Image.{lambdas_of}
+use Rattle.cc_emit.specs.Image.{lambdas_of}
 use Rattle.cc_emit.specs.Items.{image_of_items}
 use Rattle.cc_emit.proofs.Emitted.{kept_here}
-use Rattle.cc_emit_def.proofs.lemmas.Lambdas.{is_function}
+use Rattle.cc_emit.proofs.lemmas.Lambdas.{is_function}
 use Rattle.cc_emit.proofs.program.emit.Goals as goal
 
 pub all_items-requires : goal.all_items-requires

@@ -6,8 +6,7 @@ use Rattle.s_linear.specs.Lines.{names_below}
 use Rattle.rv_layout.specs.Items.{items_size}
 use Rattle.a_place.specs.Places.{places}
 use Rattle.s_linear.specs.declared.frame.CodeForm.TheVariants.{Plain}
-use Rattle.a_place.specs.Places.{places}
-use Rattle.cc_emit_def.proofs.lemmas.Lambdas.{names_fit, frame_fits_here, can_select_here, items_are}
+use Rattle.cc_emit.proofs.lemmas.Lambdas.{names_fit, frame_fits_here, can_select_here, items_are}
 use Rattle.cc_listing.proofs.FunctionLemmas.{text_is}
 use Rattle.cc_listing.proofs.functions.push_function.Goals as goal
 

@@ -3,7 +3,7 @@ use Rattle.std.proofs.Common.{◌≡◌, ◌++◌, ap, ◌∙◌, map}
 use Rattle.std.specs.Arc.{arc_value}
 use Rattle.elf_file.specs.Image.{Sections, sections_of}
 use Rattle.g_graph.specs.Plain.{PlainOmega}
-use Rattle.cc_emit_def.specs.Image.{lambdas_of}
+use Rattle.cc_emit.specs.Image.{lambdas_of}
 use Rattle.cc_listing.specs.Globals.{fixed_text, others_text}
 use Rattle.cc_listing.specs.Lines.{sections_text, text_of}
 use Rattle.cc_listing.specs.Symbols.{commands_text}

@@ -4,8 +4,8 @@ use Rattle.std.specs.Arc.{arc_value}
 use Rattle.std.proofs.lemmas.Result.{on_ok_weaker}
 use Rattle.elf_file.specs.Image.{Sections}
 use Rattle.g_graph.specs.Plain.{PlainOmega}
-use Rattle.cc_emit_def.specs.Image.{lambdas_of}
-use Rattle.cc_emit_def.proofs.lemmas.Lambdas.{is_function}
+use Rattle.cc_emit.specs.Image.{lambdas_of}
+use Rattle.cc_emit.proofs.lemmas.Lambdas.{is_function}
 use Rattle.cc_listing.specs.Lines.{text_of}
 use Rattle.cc_listing.specs.Words.{words_in}
 use Rattle.cc_listing.proofs.ImageLemmas.{start_is_there, functions_are_there, functions_are_short}

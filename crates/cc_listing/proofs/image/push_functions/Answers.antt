@@ -4,8 +4,8 @@ use Rattle.std.proofs.lemmas.List.{length-drop}
 use Rattle.std.specs.Arc.{arc_value}
 use Rattle.g_graph.specs.Plain.{PlainOptimised}
 use Rattle.s_linear.specs.declared.frame.CodeForm.TheVariants.{Plain}
-use Rattle.cc_emit_def.specs.Image.{code_size, lambdas_of}
-use Rattle.cc_emit_def.specs.Laws.{IsFunction}
+use Rattle.cc_emit.specs.Image.{code_size, lambdas_of}
+use Rattle.cc_emit.specs.Laws.{IsFunction}
 use Rattle.cc_listing.specs.Lines.{function_text}
 use Rattle.cc_listing.proofs.Listed.{answer_at, own_there, left_there, listed_step, listed_end, four_code}
 use Rattle.cc_listing.proofs.image.push_functions.Goals as goal

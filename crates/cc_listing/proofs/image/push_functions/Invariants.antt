@@ -2,7 +2,7 @@
 use Rattle.std.proofs.Common.{◌≡◌, ◌++◌, ◌+◌, ◌*◌, ◌≤◌, drop, length, map, sum_by}
 use Rattle.std.specs.Arc.{arc_value}
 use Rattle.s_linear.specs.declared.frame.CodeForm.TheVariants.{Plain}
-use Rattle.cc_emit_def.specs.Image.{code_size, lambdas_of}
+use Rattle.cc_emit.specs.Image.{code_size, lambdas_of}
 use Rattle.cc_listing.specs.Lines.{functions_text}
 use Rattle.cc_listing.proofs.image.push_functions.Given as goal
 

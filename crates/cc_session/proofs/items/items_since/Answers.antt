@@ -2,9 +2,9 @@ use Rattle.std.proofs.Common.{map, option_map, Some, sym, ap, subst, ◌∙◌}
 use Rattle.std.proofs.lemmas.Option.{slice_get-map}
 use Rattle.std.specs.Arc.{arc_value}
 use Rattle.g_graph.specs.Plain.{PlainOptimised}
-use Rattle.cc_emit_def.specs.Image.{function_items, lambdas_of}
-use Rattle.cc_emit_def.specs.Laws.{IsFunction}
-use Rattle.cc_compile.proofs.of_cc_emit.lemmas.Answered.{answer_at, items_more}
+use Rattle.cc_emit.specs.Image.{function_items, lambdas_of}
+use Rattle.cc_emit.specs.Laws.{IsFunction}
+use Rattle.cc_emit.proofs.lemmas.Answered.{answer_at, items_more}
 use Rattle.cc_session.proofs.items.items_since.Goals as goal
 
 pub items_at-requires-clause-function : goal.items_at-requires-clause-function

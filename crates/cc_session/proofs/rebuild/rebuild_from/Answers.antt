@@ -5,12 +5,12 @@ use Rattle.call_order.specs.Units.{call_lists}
 use Rattle.g_graph.specs.Plain.{PlainLambda, PlainOmega}
 use Rattle.g_build_def.specs.Functions as built
 use Rattle.g_pass_def.specs.Answers.{AreAnswers}
-use Rattle.g_pass_renew.specs.g_pass.Sweep.{rules}
+use Rattle.g_pass.specs.Sweep.{rules}
 use Rattle.rv_layout.specs.Layout.{item_lists}
-use Rattle.cc_emit_def.specs.Image.{lambdas_of}
-use Rattle.cc_emit_def.specs.Laws.{IsFunction}
-use Rattle.cc_emit_def.proofs.lemmas.Lambdas.{is_function}
-use Rattle.cc_compile.specs.cc_emit.Items.{image_of_items, CanEmitItems}
+use Rattle.cc_emit.specs.Image.{lambdas_of}
+use Rattle.cc_emit.specs.Laws.{IsFunction}
+use Rattle.cc_emit.proofs.lemmas.Lambdas.{is_function}
+use Rattle.cc_emit.specs.Items.{image_of_items, CanEmitItems}
 use Rattle.cc_session.specs.Items.{items_of, AreItemsKept}
 use Rattle.cc_session.specs.Rebuilds.{AreRemade}
 use Rattle.cc_session.proofs.FromParts.{small, rebuilt}

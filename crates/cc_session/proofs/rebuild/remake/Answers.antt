@@ -1,8 +1,8 @@
 use Rattle.std.proofs.Common.{Bool, List, sym, subst}
 use Rattle.call_order.specs.Units.{call_lists}
 use Rattle.g_graph.specs.Plain.{PlainOptimised}
-use Rattle.g_pass_renew.specs.g_pass.Sweep.{rules}
-use Rattle.g_pass_renew.specs.Kept.{AreKept}
+use Rattle.g_pass.specs.Sweep.{rules}
+use Rattle.g_pass_work.specs.Kept.{AreKept}
 use Rattle.cc_session.specs.Session.{answers_of}
 use Rattle.cc_session.proofs.Earlier.{kept-of}
 use Rattle.cc_session.proofs.rebuild.remake.Goals as goal

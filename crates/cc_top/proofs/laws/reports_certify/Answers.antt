@@ -1,6 +1,6 @@
 use Rattle.std.proofs.Common.{[], refl, sym, subst}
-use Rattle.cc_build.specs.BuildEnds.{rows_built}
-use Rattle.cc_certify.specs.log_judge.Judgement.{Certifies}
+use Rattle.cc_top.specs.BuildEnds.{rows_built}
+use Rattle.log_check.specs.Judgement.{Certifies}
 use Rattle.cc_top.proofs.laws.reports_certify.Goals as goal
 
 pub returns : goal.returns

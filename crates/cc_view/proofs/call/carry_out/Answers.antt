@@ -1,5 +1,5 @@
-use Rattle.cc_outside.specs.Outside.{files_seen, stream_seen}
-use Rattle.cc_view_command.specs.PlainCommand.{plain_command}
+use Rattle.cc_io.specs.Outside.{files_seen, stream_seen}
+use Rattle.cc_view_source.specs.PlainCommand.{plain_command}
 use Rattle.cc_view.proofs.Ends.{under_it, under_none}
 use Rattle.cc_view.proofs.call.carry_out.Goals as goal
 

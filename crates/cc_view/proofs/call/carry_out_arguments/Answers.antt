@@ -1,8 +1,8 @@
 use Rattle.std.proofs.Common.{Option, map, refl, subst, inl}
 use Rattle.std.specs.String.{string_bytes}
-use Rattle.cc_outside.specs.Outside.{files_seen, stream_seen}
+use Rattle.cc_io.specs.Outside.{files_seen, stream_seen}
 use Rattle.cc_report.specs.declared.outcome.Outcome.TheVariants.{Usage}
-use Rattle.cc_view_command.specs.Command.{Command, command_of}
+use Rattle.cc_view_source.specs.Command.{Command, command_of}
 use Rattle.cc_view.specs.ViewEnds.{ViewEnds}
 use Rattle.cc_view.proofs.Ends.{unread_arguments}
 use Rattle.cc_view.proofs.call.carry_out_arguments.Goals as goal

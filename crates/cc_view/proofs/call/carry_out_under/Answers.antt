@@ -1,6 +1,6 @@
 use Rattle.std.proofs.Common.{◌∙◌, ap, take}
-use Rattle.cc_outside.specs.Outside.{files_seen, stream_seen}
-use Rattle.cc_view_command.specs.PlainCommand.{plain_command}
+use Rattle.cc_io.specs.Outside.{files_seen, stream_seen}
+use Rattle.cc_view_source.specs.PlainCommand.{plain_command}
 use Rattle.cc_view.specs.ViewEnds.{source_of}
 use Rattle.cc_view.proofs.Ends.{read_text, unread_so, written_ends}
 use Rattle.cc_view.proofs.call.carry_out_under.Goals as goal

@@ -2,7 +2,7 @@ use Rattle.std.proofs.Common.{ℕ, List, Some, map, sym, subst, arith}
 use Rattle.std.specs.Arc.{arc_value}
 use Rattle.cc_report.specs.declared.outcome.Outcome.{Outcome}
 use Rattle.cc_view.specs.declared.shown.Shown.{Shown}
-use Rattle.cc_view_graph.specs.Drawn.{AreOneShown, IsThere}
+use Rattle.cc_view_source.specs.Drawn.{AreOneShown, IsThere}
 use Rattle.cc_view.specs.Shown.{GraphShows}
 use Rattle.cc_view.proofs.Shows.{answers-of, no-graph}
 use Rattle.cc_view.proofs.shown.function_of_made.Goals as goal

@@ -2,7 +2,7 @@ use Rattle.std.proofs.Common.{ℕ, None, map, sym, subst}
 use Rattle.std.proofs.lemmas.List.{length-map}
 use Rattle.std.specs.Arc.{arc_value}
 use Rattle.cc_view.specs.declared.shown.Shown.{Shown}
-use Rattle.cc_view_graph.specs.Drawn.{AreShown}
+use Rattle.cc_view_source.specs.Drawn.{AreShown}
 use Rattle.cc_view.specs.Shown.{GraphShows}
 use Rattle.cc_view.proofs.Shows.{no-graph}
 use Rattle.cc_view.proofs.shown.functions_of_made.Goals as goal

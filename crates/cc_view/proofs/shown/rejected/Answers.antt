@@ -1,7 +1,7 @@
 use Rattle.std.proofs.Common.{refl, sym, ap, subst, ◌∙◌}
-use Rattle.cc_refusal.specs.Refusal.{refusal_of}
-use Rattle.cc_refusal.specs.Refused.{IsRejectionOf, outcome_of_refusal}
-use Rattle.cc_refusal.proofs.lemmas.Sources.{rejected as is_rejected}
+use Rattle.cc_source.specs.Refusal.{refusal_of}
+use Rattle.cc_source.specs.Refused.{IsRejectionOf, outcome_of_refusal}
+use Rattle.cc_source.proofs.lemmas.Sources.{rejected as is_rejected}
 use Rattle.cc_view.proofs.shown.rejected.Goals as goal
 
 pub returns-clause-ended : goal.returns-clause-ended

@@ -1,12 +1,12 @@
 use Rattle.std.proofs.Common.{◌≤◌, sym, ap, subst, ◌∙◌, length, map, slice_get, List, arith}
 use Rattle.std.specs.Arc.{arc_value}
 use Rattle.std.proofs.lemmas.Result.{IfOk-weaker}
-use Rattle.limits.specs.Limits.{most_functions}
+use Rattle.base.specs.Limits.{most_functions}
 use Rattle.g_graph.specs.Lists.{IsComplete}
 use Rattle.g_graph.specs.Plain.{PlainLambda, PlainOmega}
 use Rattle.g_pass_def.specs.Answers.{AreAnswers}
-use Rattle.cc_compile.specs.g_pass.Sweep.{rules}
-use Rattle.cc_compile.specs.cc_emit_def.Image.{lambdas_of, CanEmit}
+use Rattle.g_pass.specs.Sweep.{rules}
+use Rattle.cc_emit.specs.Image.{lambdas_of, CanEmit}
 use Rattle.cc_view_source.specs.Made.{IsMadeOf}
 use Rattle.cc_view_source.proofs.making.answers_of.Goals as goal
 

@@ -1,5 +1,5 @@
 use Rattle.std.proofs.Common.{◌≡◌, ◌++◌, take, flat_map, slice_index}
-use Rattle.r_names.specs.Names.{rule_place}
+use Rattle.r_rule.specs.Names.{rule_place}
 use Rattle.cc_watch.specs.Texts.{rule_text}
 use Rattle.cc_watch.proofs.counter.push_rules.Given as goal
 

@@ -1,6 +1,6 @@
 -- One node goes, and then those in its regions one after another.
 use Rattle.std.proofs.Common.{Some, List, sym, ◌∙◌, ◌<◌, length, subst}
-use Rattle.g_arena_slots.specs.Plain.{PlainSlot, live_from}
+use Rattle.g_arena_use.specs.Plain.{PlainSlot, live_from}
 use Rattle.g_arena.proofs.GoneLemmas.{marked_less}
 use Rattle.g_arena.proofs.WalkLemmas.{going_first, going_more, going_at, going_by, going_found, going_ended, going_stopped, inputs_there, results_there}
 use Rattle.g_arena.proofs.arena.go_with.Goals as goal

@@ -1,6 +1,6 @@
 -- The nodes that were seen are those before the walk and what is left behind it.
 use Rattle.std.proofs.Common.{length}
-use Rattle.g_arena_slots.specs.Plain.{live_from}
+use Rattle.g_arena_use.specs.Plain.{live_from}
 use Rattle.g_arena.proofs.WalkLemmas.{Going}
 use Rattle.g_arena.proofs.arena.go_with.Given as goal
 

@@ -1,7 +1,7 @@
 -- The lists are those that were given, with a name for each use that can be.
 use Rattle.std.proofs.Common.{List, refl, subst, sym, ap, arith}
 use Rattle.g_arena_use.specs.Lists.{PlainUses, origins_in}
-use Rattle.g_arena_slots.specs.Plain.{PlainSlot, AreShort}
+use Rattle.g_arena_use.specs.Plain.{PlainSlot, AreShort}
 use Rattle.g_arena.proofs.StoreLemmas.{named_by}
 use Rattle.g_arena.proofs.making.indexed.Goals as goal
 

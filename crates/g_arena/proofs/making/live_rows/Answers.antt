@@ -2,9 +2,9 @@
 use Rattle.std.proofs.Common.{◌+◌, ◌<◌, ◌≤◌, ◌++◌, length, drop, subst, sym, ap, ◌∙◌, arith}
 use Rattle.std.proofs.Math.ListN.{drop_of_length-le}
 use Rattle.std.proofs.lemmas.List.{append-nil}
-use Rattle.g_arena_slots.specs.Plain.{PlainSlot, slot_at, is_live}
-use Rattle.g_arena_slot_laws.specs.Seen.{slot_seen, nodes_seen}
-use Rattle.g_arena_slot_laws.proofs.ReadLemmas.{slot_there}
+use Rattle.g_arena_use.specs.Plain.{PlainSlot, slot_at, is_live}
+use Rattle.g_arena_use.specs.Seen.{slot_seen, nodes_seen}
+use Rattle.g_arena_use.proofs.ReadLemmas.{slot_there}
 use Rattle.g_arena.specs.Rows.{HasResults, with_row}
 use Rattle.g_arena.proofs.RowLemmas.{row_more}
 use Rattle.g_arena.proofs.making.live_rows.Goals as goal

@@ -1,6 +1,6 @@
 -- The rows so far, with those that are left, are all of them.
 use Rattle.std.proofs.Common.{◌≡◌, ◌++◌, drop}
-use Rattle.g_arena_slot_laws.specs.Seen.{nodes_seen}
+use Rattle.g_arena_use.specs.Seen.{nodes_seen}
 use Rattle.g_arena.proofs.making.live_rows.Given as goal
 
 abbrev pub invariant-loop-at : goal.invariant-loop-at

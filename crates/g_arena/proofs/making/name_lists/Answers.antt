@@ -2,7 +2,7 @@
 use Rattle.std.proofs.Common.{◌<◌, List, length, subst, arith}
 use Rattle.g_graph.specs.declared.op.Origin.{Origin}
 use Rattle.g_arena_use.specs.Lists.{PlainList, AreNamedIn}
-use Rattle.g_arena_slot_laws.proofs.ReadLemmas.{get_within}
+use Rattle.g_arena_use.proofs.ReadLemmas.{get_within}
 use Rattle.g_arena.proofs.StepLemmas.{item_there, kept_more, list_more, lists_named}
 use Rattle.g_arena.proofs.making.name_lists.Goals as goal
 

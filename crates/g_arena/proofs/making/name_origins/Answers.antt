@@ -1,6 +1,6 @@
 -- One use more is named.
 use Rattle.std.proofs.Common.{arith}
-use Rattle.g_arena_slot_laws.proofs.ReadLemmas.{get_within}
+use Rattle.g_arena_use.proofs.ReadLemmas.{get_within}
 use Rattle.g_arena.proofs.StepLemmas.{name_kept, kept_more, origin_more, origins_named}
 use Rattle.g_arena.proofs.making.name_origins.Goals as goal
 

@@ -1,6 +1,6 @@
 -- One slot more is named.
 use Rattle.std.proofs.Common.{◌<◌, length, arith}
-use Rattle.g_arena_slot_laws.proofs.ReadLemmas.{get_within}
+use Rattle.g_arena_use.proofs.ReadLemmas.{get_within}
 use Rattle.g_arena.proofs.StepLemmas.{item_there, kept_more, slots_named}
 use Rattle.g_arena.proofs.making.name_slots.Goals as goal
 

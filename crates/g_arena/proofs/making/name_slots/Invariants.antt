@@ -1,7 +1,7 @@
 -- The slots so far are named.
 use Rattle.std.proofs.Common.{◌≡◌, ℕ, ◌<◌, Some}
 use Rattle.std.specs.Prelude.{slice_get}
-use Rattle.g_arena_slots.specs.Plain.{PlainSlot}
+use Rattle.g_arena_use.specs.Plain.{PlainSlot}
 use Rattle.g_arena.specs.Stores.{AreKept, IsSlotNamed}
 use Rattle.g_arena.proofs.making.name_slots.Given as goal
 

@@ -1,6 +1,6 @@
 -- The rows so far, with those that are left, are all of them.
 use Rattle.std.proofs.Common.{◌≡◌, ◌+◌, ◌++◌, drop}
-use Rattle.g_arena_slot_laws.specs.Seen.{regions_seen}
+use Rattle.g_arena_use.specs.Seen.{regions_seen}
 use Rattle.g_arena.proofs.making.region_rows.Given as goal
 
 abbrev pub invariant-loop-k : goal.invariant-loop-k

@@ -1,5 +1,5 @@
 use Rattle.std.proofs.Common.{◌≡◌, ◌≤◌, drop}
-use Rattle.limits.specs.Limits.{most_built_values}
+use Rattle.base.specs.Limits.{most_built_values}
 use Rattle.g_build.specs.Passed.{first_beyond}
 use Rattle.g_build.proofs.passed.first_beyond.Given as goal
 

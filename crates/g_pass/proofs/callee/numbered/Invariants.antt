@@ -1,7 +1,7 @@
 use Rattle.std.proofs.Common.{◌≡◌, map, drop}
 use Rattle.std.specs.Arc.{arc_value}
 use Rattle.g_pass_def.specs.Answers.{lambdas_of}
-use Rattle.r_inline_walk.specs.r_inline_laws.Callees.{numbered}
+use Rattle.r_inline.specs.Callees.{numbered}
 use Rattle.g_pass.proofs.callee.numbered.Given as goal
 
 -- the first of the callees from an index on is the first of all

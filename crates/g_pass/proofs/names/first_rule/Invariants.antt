@@ -1,6 +1,6 @@
 use Rattle.std.proofs.Common.{◌≢◌, ◌++◌, ◌<◌, ℕ, List}
 use Rattle.g_graph.specs.declared.steps.Rule.{Rule}
-use Rattle.r_names.specs.Names.{rule_name, rule_place}
+use Rattle.r_rule.specs.Names.{rule_name, rule_place}
 use Rattle.g_pass.proofs.names.first_rule.Given as goal
 
 -- the text begins with none of the names so far

@@ -1,5 +1,5 @@
 use Rattle.std.proofs.Common.{◌≡◌, ◌+◌, ◌∷◌, [], ◌++◌, length, length-append, append-nil, ap, sym, ◌∙◌, arith}
-use Rattle.r_names.specs.Names.{rule_name}
+use Rattle.r_rule.specs.Names.{rule_name}
 use Rattle.g_pass.specs.Recipe.{later_text, recipe_text}
 use Rattle.g_pass.proofs.Letters.{on_none}
 use Rattle.g_pass.proofs.Texts.{begun, begun_more, ended, goes_on, empty_is, ends_or_goes_on}

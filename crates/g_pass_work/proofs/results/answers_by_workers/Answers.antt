@@ -4,7 +4,7 @@ use Rattle.std.proofs.lemmas.Result.{IfOk-weaker}
 use Rattle.board_core.specs.Answers.{IsRanked}
 use Rattle.board_core.specs.Board.{Program}
 use Rattle.board_core.specs.History.{dep_lists}
-use Rattle.board_one.specs.Alone.{AreResults}
+use Rattle.board_core.specs.Alone.{AreResults}
 use Rattle.call_order.specs.Units.{call_lists}
 use Rattle.g_graph.specs.Plain.{PlainOptimised}
 use Rattle.g_pass_def.specs.Answers.{AreAnswers}

@@ -1,6 +1,6 @@
 use Rattle.std.specs.Prelude.{ℕ, List, length}
 use Rattle.std.proofs.Common.{◌≡◌, ◌≤◌, sym, subst}
-use Rattle.limits.specs.Limits.{most_name_bytes}
+use Rattle.base.specs.Limits.{most_name_bytes}
 use Rattle.c_lex.specs.Grammar.{IsIdentifier}
 use Rattle.log_check.proofs.Maybe.{on_none}
 use Rattle.log_check.proofs.Words.{no_name_first, no_name_second}

@@ -3,7 +3,7 @@ use Rattle.std.proofs.Common.{◌+◌, ◌<◌, sym, subst, ◌∙◌}
 use Rattle.std.specs.Prelude.{◌^◌}
 use Rattle.g_graph.specs.Plain.{PlainLambda}
 use Rattle.g_mean.specs.Copies.{IsClosed}
-use Rattle.r_copy.specs.Numbering.{node_count}
+use Rattle.r_edit.specs.Numbering.{node_count}
 use Rattle.r_inline.proofs.Nodes.{closed, numbers}
 use Rattle.r_inline.proofs.node.inlined_node.Goals as goal
 

@@ -2,7 +2,7 @@ use Rattle.std.proofs.Common.{◌+◌, ap₂, sym, subst, ◌∙◌}
 use Rattle.g_graph.specs.Plain.{PlainLambda}
 use Rattle.g_graph.specs.contracts.lambda.Lambda as Lambda
 use Rattle.g_mean.specs.Copies.{IsClosed}
-use Rattle.r_copy.specs.Numbering.{node_count, region_numbered}
+use Rattle.r_edit.specs.Numbering.{node_count, region_numbered}
 use Rattle.r_inline.proofs.Copied.{body-closed, iln-is, iln-step}
 use Rattle.r_inline.proofs.rule.apply.Goals as goal
 

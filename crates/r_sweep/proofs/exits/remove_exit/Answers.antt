@@ -3,7 +3,7 @@ use Rattle.std.specs.Prelude.{IsSome}
 use Rattle.g_arena_def.specs.Flat.{place_in}
 use Rattle.g_arena_def.specs.Reads.{result_at}
 use Rattle.g_arena_def.specs.Edits.{result_removed, output_removed}
-use Rattle.r_sweep_laws.specs.g_arena_laws.Removals.{each_of}
+use Rattle.r_sweep.specs.Removals.{each_of}
 use Rattle.r_sweep.proofs.ExitLemmas.{result_there}
 use Rattle.r_sweep.proofs.exits.remove_exit.Goals as goal
 

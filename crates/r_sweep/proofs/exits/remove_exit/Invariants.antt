@@ -2,7 +2,7 @@
 use Rattle.std.proofs.Common.{◌≡◌, ◌+◌}
 use Rattle.g_arena_def.specs.Flat.{place_in}
 use Rattle.g_arena_def.specs.Edits.{result_removed, output_removed}
-use Rattle.r_sweep_laws.specs.g_arena_laws.Removals.{each_of}
+use Rattle.r_sweep.specs.Removals.{each_of}
 use Rattle.r_sweep.proofs.exits.remove_exit.Given as goal
 
 abbrev pub invariant-loop-region : goal.invariant-loop-region

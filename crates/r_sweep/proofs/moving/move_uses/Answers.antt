@@ -1,9 +1,9 @@
 use Rattle.std.proofs.Common.{◌≡◌, ◌≤◌, arith, ap, subst, ◌∙◌, sym}
 use Rattle.std.specs.Prelude.{IsSome}
-use Rattle.g_arena_def.specs.g_graph.declared.op.Origin.{Origin}
+use Rattle.g_graph.specs.declared.op.Origin.{Origin}
 use Rattle.g_arena_def.specs.Reads.{kind_in, uses_in}
-use Rattle.r_sweep_laws.specs.g_arena_laws.Removals.{uses_changed}
-use Rattle.r_sweep_laws.proofs.lemmas.Moves.{kinds_still, uses_left}
+use Rattle.r_sweep.specs.Removals.{uses_changed}
+use Rattle.r_sweep.proofs.lemmas.Moves.{kinds_still, uses_left}
 use Rattle.r_sweep.proofs.moving.move_uses.Goals as goal
 
 pub change_use-requires-clause-used : goal.change_use-requires-clause-used

@@ -1,6 +1,6 @@
 -- So many uses have moved.
 use Rattle.std.proofs.Common.{◌≡◌, ◌+◌}
-use Rattle.r_sweep_laws.specs.g_arena_laws.Removals.{uses_changed}
+use Rattle.r_sweep.specs.Removals.{uses_changed}
 use Rattle.r_sweep.proofs.moving.move_uses.Given as goal
 
 abbrev pub invariant-loop-i : goal.invariant-loop-i

@@ -7,9 +7,9 @@ use Rattle.std.specs.declared.option.Option.TheVariants.{Some, None}
 use Rattle.g_graph.specs.Count.{saturated, node_values, nodes_values}
 use Rattle.g_graph.specs.Plain.{node, region, args_of, region_then, node_then, no_nodes, id_of, inputs_in, regions_in, nodes_in, results_of, nodes_of, regions_of}
 use Rattle.g_graph.specs.Splice.{joined_nodes}
-use Rattle.r_copy.specs.g_mean.Copies.{IsClosed, AllClosed}
-use Rattle.r_walk_def.specs.Context.{joined_regions}
-use Rattle.r_walk_def.specs.Walk.{Cursor, cursor_in, inputs_of_nodes, results_used, stepped, walk_node, walk_nodes, walk_region, walk_regions, open_at}
+use Rattle.g_mean.specs.Copies.{IsClosed, AllClosed}
+use Rattle.r_walk.specs.Context.{joined_regions}
+use Rattle.r_walk.specs.Walk.{Cursor, cursor_in, inputs_of_nodes, results_used, stepped, walk_node, walk_nodes, walk_region, walk_regions, open_at}
 use Rattle.r_walk.specs.Around.{AreWords, AreUses}
 use Rattle.r_walk.specs.Asks.{said_of, walking, IsSound, AllSound, AreSoundNodes, AreInnerClosed}
 use Rattle.r_walk.specs.Moves.{origin_in}

@@ -1,9 +1,9 @@
 -- What is written, with what is left, makes the whole.
 use Rattle.std.proofs.Common.{◌≡◌, drop}
 use Rattle.g_graph.specs.Plain.{nodes_of, regions_of}
-use Rattle.r_copy.specs.g_mean.Copies.{AllClosed}
-use Rattle.r_walk_def.specs.Context.{joined_regions}
-use Rattle.r_walk_def.specs.Walk.{Cursor, walk_regions}
+use Rattle.g_mean.specs.Copies.{AllClosed}
+use Rattle.r_walk.specs.Context.{joined_regions}
+use Rattle.r_walk.specs.Walk.{Cursor, walk_regions}
 use Rattle.r_walk.specs.Asks.{walking, AllSound, AreSoundNodes, AreInnerClosed}
 use Rattle.r_walk.specs.Walks.{IsCursor, HasGained}
 use Rattle.r_walk.proofs.Along.{IsAlong}

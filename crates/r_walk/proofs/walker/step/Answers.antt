@@ -3,7 +3,7 @@ use Rattle.std.proofs.Common.{◌≡◌, ◌==◌, ◌∙◌, ap, subst, if◌th
 use Rattle.g_graph.specs.declared.op.Origin.TheVariants.{Out}
 use Rattle.g_graph.specs.Count.{saturated, node_values, nodes_values}
 use Rattle.g_graph.specs.Plain.{node, id_of, nodes_of, regions_of}
-use Rattle.r_walk_def.specs.Walk.{stepped}
+use Rattle.r_walk.specs.Walk.{stepped}
 use Rattle.r_walk.specs.Asks.{walking}
 use Rattle.r_walk.specs.Moves.{output_in}
 use Rattle.r_walk.proofs.Along.{step_made}

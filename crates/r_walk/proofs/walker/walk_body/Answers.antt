@@ -1,6 +1,6 @@
 -- The body of a well-formed lambda is closed and sound.
 use Rattle.std.proofs.Common.{sym, subst}
-use Rattle.r_copy.specs.g_mean.Copies.{IsClosed}
+use Rattle.g_mean.specs.Copies.{IsClosed}
 use Rattle.r_walk.specs.Asks.{IsSound}
 use Rattle.r_walk.proofs.Along.{body_closed}
 use Rattle.r_walk.proofs.Sound.{body_sound}

@@ -2,7 +2,7 @@
 use Rattle.std.proofs.Common.{◌≡◌, length}
 use Rattle.a_share.specs.Facts.{partners_of}
 use Rattle.a_share.specs.Giving.{candidates_at, fits_at, place_at}
-use Rattle.a_share_def.specs.Share.{first_of}
+use Rattle.a_place.specs.Share.{first_of}
 use Rattle.a_share.proofs.Placing.{AreTried}
 use Rattle.a_share.proofs.Trying.{left_from, others_from}
 use Rattle.a_share.proofs.giving.Giving.choose.Given as goal

@@ -4,7 +4,7 @@ use Rattle.std.proofs.lemmas.Result.{on_ok_weaker}
 use Rattle.std.specs.Vec.{with_item}
 use Rattle.a_share.specs.Facts.{line_number, segments_of, writes_of}
 use Rattle.a_share.specs.Held.{IsHeld, AddsTo}
-use Rattle.a_share_def.specs.Share.{counted_for}
+use Rattle.a_place.specs.Share.{counted_for}
 use Rattle.a_share.specs.Giving.{Holds, chosen, names_at}
 use Rattle.a_share.specs.declared.giving.Giving.{Giving}
 use Rattle.a_share.proofs.Tables.{read_list}

@@ -2,7 +2,7 @@ use Rattle.std.proofs.Common.{◌∙◌, refl, sym, ap}
 use Rattle.s_linear.specs.Views.{instr_of}
 use Rattle.s_linear.specs.Lines.{instr_names}
 use Rattle.std.specs.Prelude.{drop}
-use Rattle.a_share_def.specs.Share.{targets}
+use Rattle.a_place.specs.Share.{targets}
 use Rattle.a_share.specs.Walk.{names_in}
 use Rattle.a_share.proofs.Setting.{pass_some, pass_none}
 use Rattle.a_share.proofs.needs.Needs.pass.Goals as goal

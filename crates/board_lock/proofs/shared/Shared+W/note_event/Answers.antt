@@ -1,7 +1,7 @@
 use Rattle.std.proofs.Common.{arith, ◌<◌, ◌++◌, [], ◌∷◌, length, sym, ap, ◌∙◌, subst}
 use Rattle.board_core.specs.Board.{IsLegal}
 use Rattle.board_core.specs.History.{program_of}
-use Rattle.board_laws.specs.OwnEvents.{worker_of}
+use Rattle.board_core.specs.OwnEvents.{worker_of}
 use Rattle.board_lock.proofs.PartLemmas.{has_turn, on-turn}
 use Rattle.board_lock.proofs.StepLemmas.{notes-step}
 use Rattle.board_lock.proofs.shared.Shared+W.note_event.Goals as goal

@@ -1,5 +1,5 @@
 use Rattle.std.proofs.Common.{◌∙◌}
-use Rattle.c_parse_laws.specs.PredictSets.{head, group_label, begins_repeated}
+use Rattle.c_ast.specs.PredictSets.{head, group_label, begins_repeated}
 use Rattle.c_parse_tokens.specs.Ahead.{case_production}
 use Rattle.c_parse_tokens.proofs.Begins.{begins_by}
 use Rattle.c_parse_tokens.proofs.tokens.Tokens.sees_label.Goals as goal

@@ -1,5 +1,5 @@
 use Rattle.std.proofs.Common.{◌∙◌}
-use Rattle.c_parse_laws.specs.PredictSets.{head, stmt, begins_repeated}
+use Rattle.c_ast.specs.PredictSets.{head, stmt, begins_repeated}
 use Rattle.c_parse_tokens.specs.Ahead.{stmt_production}
 use Rattle.c_parse_tokens.proofs.Begins.{begins_by}
 use Rattle.c_parse_tokens.proofs.tokens.Tokens.sees_statement.Goals as goal

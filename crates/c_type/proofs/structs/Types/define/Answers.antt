@@ -1,6 +1,6 @@
 use Rattle.std.proofs.Common.{◌≡◌, ◌<◌, ◌≤◌, rules, ◌∷◌, [], sym, ap, ◌∙◌, subst, false}
 use Rattle.std.specs.Prelude.{IfErr}
-use Rattle.limits.specs.Limits.{most_type_bytes}
+use Rattle.base.specs.Limits.{most_type_bytes}
 use Rattle.c_type.specs.Layout.{is_defined, struct_size}
 use Rattle.c_type.specs.Normal.{AreNormalOf}
 use Rattle.c_type.specs.LaidUpTo.{IsLaid, struct_bytes}

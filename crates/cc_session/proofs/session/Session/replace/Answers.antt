@@ -1,5 +1,5 @@
 use Rattle.std.proofs.Common.{ℕ, List, refl, ap, subst}
-use Rattle.cc_edit.specs.cc_source.Accepted.{Accepts}
+use Rattle.cc_source.specs.Accepted.{Accepts}
 use Rattle.cc_session.specs.Session.{PlainSession}
 use Rattle.cc_session.proofs.session.Session.replace.Goals as goal
 

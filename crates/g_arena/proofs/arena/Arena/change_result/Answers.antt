@@ -4,10 +4,10 @@ use Rattle.g_arena_def.specs.Flat.{Flat}
 use Rattle.g_arena_def.specs.Reads.{result_uses, region_at}
 use Rattle.g_arena_def.specs.Edits.{region_with, first_with, input_changed}
 use Rattle.g_arena_use.specs.Lists.{PlainUses, use_in, use_moved}
-use Rattle.g_arena_slot_laws.specs.Indexed.{AreIndexed}
-use Rattle.g_arena_slot_laws.proofs.ResultLemmas.{results_edited}
-use Rattle.g_arena_slot_laws.proofs.ReadLemmas.{has_kind}
-use Rattle.g_arena_slot_laws.proofs.ChangeLemmas.{indexed_kept, kept_same, moved_kept, results_move, inputs_none}
+use Rattle.g_arena_use.specs.Indexed.{AreIndexed}
+use Rattle.g_arena_use.proofs.ResultLemmas.{results_edited}
+use Rattle.g_arena_use.proofs.ReadLemmas.{has_kind}
+use Rattle.g_arena_use.proofs.ChangeLemmas.{indexed_kept, kept_same, moved_kept, results_move, inputs_none}
 use Rattle.g_arena.specs.Seen.{arena_seen}
 use Rattle.g_arena.proofs.ShownLemmas.{shown}
 use Rattle.g_arena.proofs.arena.Arena.change_result.Goals as goal

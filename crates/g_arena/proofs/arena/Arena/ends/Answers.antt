@@ -1,8 +1,8 @@
 -- The ends of the slots that are there.
 use Rattle.std.proofs.Common.{option_map, ap, ◌∙◌}
 use Rattle.g_arena_def.specs.Reads.{pair_of}
-use Rattle.g_arena_slots.specs.Plain.{id_at}
-use Rattle.g_arena_slot_laws.proofs.ReadLemmas.{ends_are}
+use Rattle.g_arena_use.specs.Plain.{id_at}
+use Rattle.g_arena_use.proofs.ReadLemmas.{ends_are}
 use Rattle.g_arena.proofs.ShownLemmas.{shown}
 use Rattle.g_arena.proofs.arena.Arena.ends.Goals as goal
 

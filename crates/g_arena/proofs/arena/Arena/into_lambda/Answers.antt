@@ -2,7 +2,7 @@
 use Rattle.std.proofs.Common.{List, subst, sym}
 use Rattle.g_arena_def.specs.Flat.{FlatNode}
 use Rattle.g_arena_nodes.specs.Made.{HasNumbersOnce}
-use Rattle.g_arena_slot_laws.proofs.ReadLemmas.{inputs_long}
+use Rattle.g_arena_use.proofs.ReadLemmas.{inputs_long}
 use Rattle.g_arena.proofs.ShownLemmas.{shown}
 use Rattle.g_arena.proofs.RowLemmas.{seen_once, have_results}
 use Rattle.g_arena.proofs.arena.Arena.into_lambda.Goals as goal

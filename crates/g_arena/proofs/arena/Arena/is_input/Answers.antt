@@ -1,6 +1,6 @@
 -- Inputs are counted as the lists of the inputs are.
 use Rattle.std.proofs.Common.{ltb, ap, ◌∙◌}
-use Rattle.g_arena_slot_laws.proofs.ReadLemmas.{uses_inputs}
+use Rattle.g_arena_use.proofs.ReadLemmas.{uses_inputs}
 use Rattle.g_arena.proofs.ShownLemmas.{shown}
 use Rattle.g_arena.proofs.arena.Arena.is_input.Goals as goal
 

@@ -1,9 +1,9 @@
 -- What is told of the slot of the node.
 use Rattle.std.proofs.Common.{Some, option_map, length, ap, sym, ◌∙◌, arith}
 use Rattle.std.specs.Prelude.{is_none}
-use Rattle.g_arena_slots.specs.Plain.{PlainSlot, id_at}
-use Rattle.g_arena_slot_laws.proofs.SeenLemmas.{slot_is}
-use Rattle.g_arena_slot_laws.proofs.ReadLemmas.{inputs_long, view_some, view_none}
+use Rattle.g_arena_use.specs.Plain.{PlainSlot, id_at}
+use Rattle.g_arena_use.proofs.SeenLemmas.{slot_is}
+use Rattle.g_arena_use.proofs.ReadLemmas.{inputs_long, view_some, view_none}
 use Rattle.g_arena.proofs.ShownLemmas.{shown}
 use Rattle.g_arena.proofs.arena.Arena.node.Goals as goal
 

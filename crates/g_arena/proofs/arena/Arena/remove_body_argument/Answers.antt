@@ -6,10 +6,10 @@ use Rattle.g_graph.specs.declared.op.Origin.TheVariants.{Arg}
 use Rattle.g_arena_def.specs.declared.place.Place.{Place}
 use Rattle.g_arena_def.specs.Edits.{argument_less, argument_removed, uses_with, region_with}
 use Rattle.g_arena_use.specs.Lists.{PlainUses, all_renamed}
-use Rattle.g_arena_slots.specs.Plain.{args_of}
-use Rattle.g_arena_slot_laws.specs.Indexed.{AreIndexed}
-use Rattle.g_arena_slot_laws.proofs.ReadLemmas.{has_kind}
-use Rattle.g_arena_slot_laws.proofs.ArgumentLemmas.{args_there, no_args, argument_kind, argument_in, no_argument, body_of, argument_edited, removed_is, body_goes, body_indexed}
+use Rattle.g_arena_use.specs.Plain.{args_of}
+use Rattle.g_arena_use.specs.Indexed.{AreIndexed}
+use Rattle.g_arena_use.proofs.ReadLemmas.{has_kind}
+use Rattle.g_arena_use.proofs.ArgumentLemmas.{args_there, no_args, argument_kind, argument_in, no_argument, body_of, argument_edited, removed_is, body_goes, body_indexed}
 use Rattle.g_arena.specs.Seen.{arena_seen}
 use Rattle.g_arena.proofs.ShownLemmas.{shown}
 use Rattle.g_arena.proofs.arena.Arena.remove_body_argument.Goals as goal

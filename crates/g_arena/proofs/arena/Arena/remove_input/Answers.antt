@@ -3,10 +3,10 @@ use Rattle.std.proofs.Common.{subst, sym, ap, ◌∙◌, arith}
 use Rattle.std.specs.List.{remove}
 use Rattle.g_arena_def.specs.Edits.{at_with, input_removed}
 use Rattle.g_arena_use.specs.Lists.{PlainUses, without}
-use Rattle.g_arena_slot_laws.specs.Indexed.{AreIndexed}
-use Rattle.g_arena_slot_laws.proofs.EditLemmas.{inputs_change}
-use Rattle.g_arena_slot_laws.proofs.ReadLemmas.{inputs_long}
-use Rattle.g_arena_slot_laws.proofs.ChangeLemmas.{indexed_kept, kept_same, edited_kept, remove_nil, input_there, no_node}
+use Rattle.g_arena_use.specs.Indexed.{AreIndexed}
+use Rattle.g_arena_use.proofs.EditLemmas.{inputs_change}
+use Rattle.g_arena_use.proofs.ReadLemmas.{inputs_long}
+use Rattle.g_arena_use.proofs.ChangeLemmas.{indexed_kept, kept_same, edited_kept, remove_nil, input_there, no_node}
 use Rattle.g_arena.specs.Seen.{arena_seen}
 use Rattle.g_arena.proofs.ShownLemmas.{shown}
 use Rattle.g_arena.proofs.arena.Arena.remove_input.Goals as goal

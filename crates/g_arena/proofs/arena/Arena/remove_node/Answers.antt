@@ -2,9 +2,9 @@
 use Rattle.std.proofs.Common.{ap, sym, ◌∙◌}
 use Rattle.std.specs.Prelude.{is_none}
 use Rattle.g_arena_def.specs.Edits.{nodes_without, node_removed}
-use Rattle.g_arena_slot_laws.specs.Seen.{nodes_seen}
-use Rattle.g_arena_slot_laws.proofs.SeenLemmas.{slot_is}
-use Rattle.g_arena_slot_laws.proofs.ChangeLemmas.{no_node}
+use Rattle.g_arena_use.specs.Seen.{nodes_seen}
+use Rattle.g_arena_use.proofs.SeenLemmas.{slot_is}
+use Rattle.g_arena_use.proofs.ChangeLemmas.{no_node}
 use Rattle.g_arena.specs.Seen.{arena_seen}
 use Rattle.g_arena.proofs.ShownLemmas.{shown}
 use Rattle.g_arena.proofs.arena.Arena.remove_node.Goals as goal

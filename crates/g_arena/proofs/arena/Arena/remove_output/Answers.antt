@@ -5,10 +5,10 @@ use Rattle.g_arena_def.specs.declared.place.Place.{Place}
 use Rattle.g_arena_def.specs.Edits.{output_less, output_removed}
 use Rattle.g_arena_use.specs.UseCells.{IsNamed}
 use Rattle.g_arena_use.specs.Lists.{PlainUses, use_in, all_renamed}
-use Rattle.g_arena_slots.specs.Plain.{PlainSlot, slot_at, output_gone}
-use Rattle.g_arena_slot_laws.specs.Indexed.{AreIndexed}
-use Rattle.g_arena_slot_laws.proofs.ChangeLemmas.{no_node}
-use Rattle.g_arena_slot_laws.proofs.OutputLemmas.{kind_there, port_there, output_indexed, output_goes}
+use Rattle.g_arena_use.specs.Plain.{PlainSlot, slot_at, output_gone}
+use Rattle.g_arena_use.specs.Indexed.{AreIndexed}
+use Rattle.g_arena_use.proofs.ChangeLemmas.{no_node}
+use Rattle.g_arena_use.proofs.OutputLemmas.{kind_there, port_there, output_indexed, output_goes}
 use Rattle.g_arena.specs.Seen.{arena_seen}
 use Rattle.g_arena.proofs.ShownLemmas.{shown}
 use Rattle.g_arena.specs.Gone.{AreGone}

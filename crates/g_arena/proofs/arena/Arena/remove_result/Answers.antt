@@ -3,9 +3,9 @@ use Rattle.std.proofs.Common.{refl, subst, sym, ap, ◌∙◌}
 use Rattle.std.specs.List.{remove}
 use Rattle.g_arena_def.specs.Edits.{at_with, result_removed}
 use Rattle.g_arena_use.specs.Lists.{PlainUses, without}
-use Rattle.g_arena_slot_laws.specs.Indexed.{AreIndexed}
-use Rattle.g_arena_slot_laws.proofs.ReadLemmas.{list_in, no_result}
-use Rattle.g_arena_slot_laws.proofs.ChangeLemmas.{indexed_kept, kept_same, edited_kept, remove_nil, results_change}
+use Rattle.g_arena_use.specs.Indexed.{AreIndexed}
+use Rattle.g_arena_use.proofs.ReadLemmas.{list_in, no_result}
+use Rattle.g_arena_use.proofs.ChangeLemmas.{indexed_kept, kept_same, edited_kept, remove_nil, results_change}
 use Rattle.g_arena.specs.Seen.{arena_seen}
 use Rattle.g_arena.proofs.ShownLemmas.{shown}
 use Rattle.g_arena.proofs.arena.Arena.remove_result.Goals as goal

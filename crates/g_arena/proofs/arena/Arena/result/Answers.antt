@@ -2,7 +2,7 @@
 use Rattle.std.proofs.Common.{List, length, ap, sym, ◌∙◌, arith}
 use Rattle.std.specs.Prelude.{slice_get}
 use Rattle.g_graph.specs.declared.op.Origin.{Origin}
-use Rattle.g_arena_slot_laws.proofs.ReadLemmas.{list_in, no_result, result_some}
+use Rattle.g_arena_use.proofs.ReadLemmas.{list_in, no_result, result_some}
 use Rattle.g_arena.proofs.ShownLemmas.{shown}
 use Rattle.g_arena.proofs.arena.Arena.result.Goals as goal
 

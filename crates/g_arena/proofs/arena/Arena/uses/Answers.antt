@@ -1,6 +1,6 @@
 -- The uses are counted in the inputs and in the results.
 use Rattle.std.proofs.Common.{sym, refl, ◌∙◌, arith}
-use Rattle.g_arena_slot_laws.proofs.ReadLemmas.{kind_same, no_kind, uses_counted}
+use Rattle.g_arena_use.proofs.ReadLemmas.{kind_same, no_kind, uses_counted}
 use Rattle.g_arena.proofs.ShownLemmas.{shown}
 use Rattle.g_arena.proofs.arena.Arena.uses.Goals as goal
 

@@ -1,7 +1,7 @@
 -- What is added, with what is left, makes the whole.
 use Rattle.std.proofs.Common.{◌≡◌, ◌||◌, ◌^◌, ◌<◌, ℕ, drop}
 use Rattle.g_graph.specs.declared.op.Origin.TheVariants.{Out}
-use Rattle.r_walk_def.specs.Walk.{is_in}
+use Rattle.r_walk.specs.Walk.{is_in}
 use Rattle.r_walk.specs.Around.{uses_in}
 use Rattle.r_walk.proofs.uses.Uses.add.Given as goal
 

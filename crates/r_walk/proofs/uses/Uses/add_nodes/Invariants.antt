@@ -2,7 +2,7 @@
 use Rattle.std.proofs.Common.{◌≡◌, ◌||◌, ◌^◌, ◌<◌, ℕ, drop}
 use Rattle.g_graph.specs.declared.op.Origin.TheVariants.{Out}
 use Rattle.g_graph.specs.Plain.{nodes_of}
-use Rattle.r_walk_def.specs.Walk.{is_in, inputs_of_nodes}
+use Rattle.r_walk.specs.Walk.{is_in, inputs_of_nodes}
 use Rattle.r_walk.specs.Around.{uses_in}
 use Rattle.r_walk.proofs.uses.Uses.add_nodes.Given as goal
 

@@ -4,7 +4,7 @@ use Rattle.std.proofs.lemmas.List.{at_drop_more}
 use Rattle.g_graph.specs.declared.op.Origin.{Origin}
 use Rattle.g_graph.specs.declared.op.Origin.TheVariants.{Arg, Out}
 use Rattle.r_walk.specs.declared.uses.Uses.{Uses}
-use Rattle.r_walk_def.specs.Walk.{is_in, results_used}
+use Rattle.r_walk.specs.Walk.{is_in, results_used}
 use Rattle.r_walk.specs.Around.{uses_in}
 use Rattle.r_walk.proofs.Tables.{used_result, unused_result}
 use Rattle.r_walk.proofs.uses.Uses.add_used.Goals as goal

@@ -2,7 +2,7 @@
 use Rattle.std.proofs.Common.{◌≡◌, ◌||◌, ◌^◌, ◌<◌, ℕ, List, drop}
 use Rattle.g_graph.specs.declared.op.Origin.{Origin}
 use Rattle.g_graph.specs.declared.op.Origin.TheVariants.{Out}
-use Rattle.r_walk_def.specs.Walk.{is_in, results_used}
+use Rattle.r_walk.specs.Walk.{is_in, results_used}
 use Rattle.r_walk.specs.Around.{uses_in, AreUses}
 use Rattle.r_walk.proofs.uses.Uses.add_used.Given as goal
 

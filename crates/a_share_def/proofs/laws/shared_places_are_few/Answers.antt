@@ -1,5 +1,0 @@
-use Rattle.a_share_def.proofs.lemmas.Few.{shared_places_are_few}
-use Rattle.a_share_def.proofs.laws.shared_places_are_few.Goals as goal
-
-pub returns : goal.returns
-returns c = shared_places_are_few

@@ -1,2 +1,0 @@
-mod OneJob
-mod AllResults

@@ -1,3 +1,0 @@
-mod LabelLemmas
-mod MoreLemmas
-mod WordLemmas

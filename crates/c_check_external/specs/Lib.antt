@@ -1,4 +1,0 @@
-pub mod Codes
-pub mod Params
-pub mod MemberLists
-pub mod Structs

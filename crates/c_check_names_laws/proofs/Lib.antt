@@ -1,3 +1,0 @@
-mod Tokens
-mod Defined
-mod Functions

@@ -1,5 +1,0 @@
-use Rattle.c_check_place_laws.proofs.Reported.{breaks_stand_at_tokens}
-use Rattle.c_check_place_laws.proofs.laws.breaks_stand_at_tokens.Goals as goal
-
-pub returns : goal.returns
-returns c = breaks_stand_at_tokens

@@ -1,5 +1,0 @@
-use Rattle.c_check_place_laws.proofs.Reported.{later_breaks_stand_later}
-use Rattle.c_check_place_laws.proofs.laws.later_breaks_stand_later.Goals as goal
-
-pub returns : goal.returns
-returns c = later_breaks_stand_later

@@ -1,4 +1,0 @@
-mod Leaves
-mod Numbers
-mod Written
-mod Cells

@@ -1,6 +1,0 @@
-mod Tests
-mod Numbers
-mod Values
-mod Pointers
-mod Accesses
-mod examples

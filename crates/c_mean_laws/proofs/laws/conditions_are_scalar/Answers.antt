@@ -1,5 +1,0 @@
-use Rattle.c_mean_laws.proofs.Values.{conditions_are_scalar}
-use Rattle.c_mean_laws.proofs.laws.conditions_are_scalar.Goals as goal
-
-pub returns : goal.returns
-returns c = conditions_are_scalar

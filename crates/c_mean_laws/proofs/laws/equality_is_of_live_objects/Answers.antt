@@ -1,5 +1,0 @@
-use Rattle.c_mean_laws.proofs.Pointers.{equality_is_of_live_objects}
-use Rattle.c_mean_laws.proofs.laws.equality_is_of_live_objects.Goals as goal
-
-pub returns : goal.returns
-returns c = equality_is_of_live_objects

@@ -1,5 +1,0 @@
-use Rattle.c_mean_laws.proofs.Numbers.{numbers_are_compared}
-use Rattle.c_mean_laws.proofs.laws.numbers_are_compared.Goals as goal
-
-pub returns : goal.returns
-returns c = numbers_are_compared

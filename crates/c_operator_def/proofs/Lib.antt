@@ -1,2 +1,0 @@
-mod examples
-pub mod lemmas

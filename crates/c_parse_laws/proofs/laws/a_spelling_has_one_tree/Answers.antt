@@ -1,5 +1,0 @@
-use Rattle.c_parse_laws.proofs.lemmas.GrammarLaws as grammar_laws
-use Rattle.c_parse_laws.proofs.laws.a_spelling_has_one_tree.Goals as goal
-
-pub returns : goal.returns
-returns c = grammar_laws.one_tree

@@ -1,5 +1,0 @@
-use Rattle.c_parse_laws.proofs.lemmas.GrammarLaws as grammar_laws
-use Rattle.c_parse_laws.proofs.laws.reader_is_exact.Goals as goal
-
-pub returns : goal.returns
-returns c = grammar_laws.reader_is_exact

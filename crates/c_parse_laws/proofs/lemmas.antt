@@ -1,3 +1,0 @@
-pub mod GrammarLaws
-pub mod Lists
-pub mod Spans

@@ -1,4 +1,0 @@
-pub mod Beginnings
-pub mod Laws
-pub mod Reader
-pub mod PredictSets

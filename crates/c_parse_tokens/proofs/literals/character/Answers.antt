@@ -1,0 +1,7 @@
+use Rattle.std.proofs.Common.{sym, ◌∙◌}
+use Rattle.c_ast.specs.Reader.{read}
+use Rattle.c_parse_tokens.proofs.LiteralLemmas.{begun-char}
+use Rattle.c_parse_tokens.proofs.literals.character.Goals as goal
+
+pub returns-in-Some : goal.returns-in-Some
+returns-in-Some c = begun-char (read c.args.fuel) _ _ _ _ (sym c.peek_char.ensures ∙ c.in-Some.is) c.take-span.ensures

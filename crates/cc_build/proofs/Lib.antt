@@ -1,5 +1,0 @@
-mod SourceLemmas
-mod AcceptLemmas
-mod BuildLemmas
-mod BuildLaws
-mod WatcherLemmas

@@ -1,3 +1,0 @@
-mod Beginnings
-mod Causes
-mod CertifiedIsTold

@@ -1,3 +1,0 @@
-mod ProgramFits
-mod ConstantRun
-mod ConstantExits

@@ -1,5 +1,0 @@
-use Rattle.cc_compile_keeps.proofs.ConstantExits.{constant_exits}
-use Rattle.cc_compile_keeps.proofs.laws.constant_exits.Goals as goal
-
-pub returns : goal.returns
-returns c = constant_exits c.loaded_is_sound.ensures

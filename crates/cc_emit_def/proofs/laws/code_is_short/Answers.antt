@@ -1,5 +1,0 @@
-use Rattle.cc_emit_def.proofs.CodeSize.{code_is_short}
-use Rattle.cc_emit_def.proofs.laws.code_is_short.Goals as goal
-
-pub returns : goal.returns
-returns c = code_is_short c.lines_are_short.ensures

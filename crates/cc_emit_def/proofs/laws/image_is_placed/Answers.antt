@@ -1,5 +1,0 @@
-use Rattle.cc_emit_def.proofs.Programs.{image_is_placed}
-use Rattle.cc_emit_def.proofs.laws.image_is_placed.Goals as goal
-
-pub returns : goal.returns
-returns c = image_is_placed c.functions_fit.ensures c.laid_is_placed.ensures

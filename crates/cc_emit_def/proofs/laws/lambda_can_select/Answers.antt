@@ -1,6 +1,0 @@
-use Rattle.cc_emit_def.proofs.Selects.{lambda_can_select}
-use Rattle.cc_emit_def.proofs.laws.lambda_can_select.Goals as goal
-
-pub returns : goal.returns
-returns c =
-    lambda_can_select c.names_have_places.ensures c.objects_are_there.ensures c.calls_keep_arguments.ensures c.widths_fit.ensures

@@ -1,5 +1,0 @@
-use Rattle.cc_emit_def.proofs.Short.{lines_are_short}
-use Rattle.cc_emit_def.proofs.laws.lines_are_short.Goals as goal
-
-pub returns : goal.returns
-returns c = lines_are_short

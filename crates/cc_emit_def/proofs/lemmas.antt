@@ -1,2 +1,0 @@
-pub mod Lambdas
-pub mod FunctionFits

@@ -1,3 +1,0 @@
-mod Programs
-mod Functions
-mod Images

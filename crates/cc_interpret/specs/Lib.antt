@@ -1,5 +1,0 @@
-pub mod RunOutcomes
-pub mod InterpretEnds
--- What is passed on of the libraries below.
-pub use Rattle.cc_refusal.specs as cc_refusal
-pub use Rattle.cc_refusal.specs.cc_source

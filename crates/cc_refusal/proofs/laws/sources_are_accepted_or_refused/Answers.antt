@@ -1,5 +1,0 @@
-use Rattle.cc_refusal.proofs.RefusalLaws.{accepted_or_refused}
-use Rattle.cc_refusal.proofs.laws.sources_are_accepted_or_refused.Goals as goal
-
-pub returns : goal.returns
-returns c = accepted_or_refused c.faults_are_first.ensures c.accepted_or_refused.ensures

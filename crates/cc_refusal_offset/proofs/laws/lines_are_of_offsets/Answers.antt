@@ -1,6 +1,0 @@
--- The law is the lemma.
-use Rattle.cc_refusal_offset.proofs.Lines.{lines_are_of_offsets}
-use Rattle.cc_refusal_offset.proofs.laws.lines_are_of_offsets.Goals as goal
-
-pub returns : goal.returns
-returns c = lines_are_of_offsets

@@ -1,2 +1,0 @@
-mod GenerateLemmas
-mod RunLemmas

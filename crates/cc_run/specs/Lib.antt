@@ -1,3 +1,0 @@
-pub mod StopOutcomes
-pub mod RunEnds
-pub mod GenerateEnds

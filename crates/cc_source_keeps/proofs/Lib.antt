@@ -1,4 +1,0 @@
-pub mod lemmas
-mod Programs
-mod Kept
-mod Calls

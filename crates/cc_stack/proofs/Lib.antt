@@ -1,5 +1,0 @@
-mod Lists
-mod Called
-mod Turning
-mod Filling
-mod Bounds

@@ -1,6 +1,0 @@
--- The depths of the functions so far are found.
-use Rattle.cc_stack.specs.Turns.{IsFilled}
-use Rattle.cc_stack.proofs.finding.filled.Given as goal
-
-abbrev pub invariant-loop-turn : goal.invariant-loop-turn
-invariant-loop-turn l = IsFilled l.lambdas l.frames l.turns l.turn-index l.depths.items

@@ -1,5 +1,0 @@
-use Rattle.cc_stack.proofs.Bounds.{stacks_are_bounded}
-use Rattle.cc_stack.proofs.laws.stacks_are_bounded.Goals as goal
-
-pub returns : goal.returns
-returns c = stacks_are_bounded

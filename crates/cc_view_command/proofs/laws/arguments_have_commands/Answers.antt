@@ -1,5 +1,0 @@
-use Rattle.cc_view_command.proofs.CommandRowsLemmas.{graph_rows, other_rows}
-use Rattle.cc_view_command.proofs.laws.arguments_have_commands.Goals as goal
-
-pub returns : goal.returns
-returns c = record { graphs = graph_rows; others = other_rows }

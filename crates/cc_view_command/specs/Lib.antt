@@ -1,4 +1,0 @@
-pub mod Command
-pub mod Arguments
-pub mod PlainCommand
-pub mod CommandRows

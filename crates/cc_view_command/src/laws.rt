@@ -1,8 +1,0 @@
-//! Laws of the definition, each the contract of a function that does nothing.
-
-ghost use Rattle.cc_view_command.specs.CommandRows.{CommandRows};
-
-/// Known lists of arguments have their commands.
-pub fn arguments_have_commands()
-    ensures { CommandRows }
-{}

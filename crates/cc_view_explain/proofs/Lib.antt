@@ -1,3 +1,0 @@
-mod FrameLemmas
-mod RefusalPlace
-mod StackLines

@@ -1,2 +1,0 @@
-mod OneShown
-mod Replays

@@ -1,4 +1,0 @@
-mod Counted
-mod Expressions
-mod Statements
-mod Functions

@@ -1,8 +1,0 @@
-pub mod lemmas
-mod Programs
-mod Starts
-mod Stands
-mod Parts
-mod Operations
-mod Places
-mod Expressions

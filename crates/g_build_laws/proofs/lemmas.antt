@@ -1,7 +1,0 @@
-pub mod Exits
-mod Jumps
-mod Switches
-mod Declarations
-mod Statements
-pub mod Bodies
-pub mod Leaves

@@ -1,4 +1,0 @@
-pub mod Parts
-pub mod Items
-pub mod Numbering
-pub mod Segments

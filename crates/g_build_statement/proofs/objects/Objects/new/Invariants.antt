@@ -1,9 +1,0 @@
-use Rattle.std.proofs.Common.{◌≡◌, ◌++◌, ◌<◌, ◌^◌, drop}
-use Rattle.g_build_statement.specs.Variables.{object_numbers}
-use Rattle.g_build_statement.proofs.objects.Objects.new.Given as goal
-
-abbrev pub invariant-loop-variable : goal.invariant-loop-variable
-invariant-loop-variable l = record {
-  numbers : l.numbers.items ++ object_numbers l.number (drop l.variable-index l.variables) ≡ object_numbers 0 l.variables;
-  few : l.number < 2 ^ 32;
-}

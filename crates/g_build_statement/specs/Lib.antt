@@ -1,4 +1,0 @@
-pub mod Variables
-pub mod LabelViews
-pub mod LabelParts
-pub mod Segments

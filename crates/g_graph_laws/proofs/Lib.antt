@@ -1,6 +1,0 @@
-pub mod lemmas
-mod FormationLemmas
-mod Fits
-mod Once
-mod Outputs
-mod Agree

@@ -1,2 +1,0 @@
-pub mod Formation
-pub mod FormationLaws

@@ -1,3 +1,0 @@
--- What crates above may cite.
-pub mod Functions
-pub mod Answers

@@ -1,6 +1,0 @@
-use Rattle.std.proofs.Common.{arith}
-use Rattle.g_pass_jobs.proofs.Numbers.{stale-read}
-use Rattle.g_pass_jobs.proofs.numbering.is_stale.Goals as goal
-
-pub returns : goal.returns
-returns c = stale-read c.args.stale.now c.args.function (omega arith)

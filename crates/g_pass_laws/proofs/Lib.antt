@@ -1,7 +1,0 @@
-mod Sized
-mod Pulled
-mod Unrolled
-mod Inverted
-mod Numbers
-mod Sweeps
-mod Given

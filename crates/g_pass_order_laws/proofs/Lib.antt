@@ -1,4 +1,0 @@
-mod Least
-mod Ways
-mod UnitsExist
-mod OrdersExist

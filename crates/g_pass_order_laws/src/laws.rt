@@ -1,8 +1,0 @@
-//! Laws of orders: each is the contract of a function that does nothing.
-
-ghost use Rattle.g_pass_order_laws.specs.OrderLaws.{OrdersExist};
-
-/// Every list of lambdas has an order.
-pub fn orders_exist()
-    ensures { OrdersExist }
-{}

@@ -1,3 +1,0 @@
-mod WholeList
-mod OneJob
-mod Crosses

@@ -1,4 +1,0 @@
-pub mod Jobs
-pub mod Kept
--- What is passed on of the libraries below.
-pub use Rattle.g_pass.specs as g_pass

@@ -1,6 +1,0 @@
-mod Rows
-mod Settled
-mod ByRank
-mod Changed
-mod RankByRank
-mod Unstale

@@ -1,5 +1,0 @@
-use Rattle.g_pass_stale.proofs.Unstale.{unstale_answers_are_kept}
-use Rattle.g_pass_stale.proofs.laws.unstale_answers_are_kept.Goals as goal
-
-pub returns : goal.returns
-returns c = unstale_answers_are_kept c.orders_are_unique.ensures.ranked

@@ -1,6 +1,0 @@
-mod Stops
-mod FirstFaults
-mod Taken
-mod Made
-mod Followed
-mod RightOrFaulty

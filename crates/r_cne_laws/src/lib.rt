@@ -1,8 +1,0 @@
-//! Laws of common node elimination on lists of nodes. Nothing in it runs.
-//! Always: the rule on the list of nodes of a lambda is the rule on the lambda.
-#![tactic(auto)]
-
-// What is passed on of the libraries below.
-pub use r_cne;
-
-pub mod laws;

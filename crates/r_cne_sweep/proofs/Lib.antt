@@ -1,5 +1,0 @@
-mod Keys
-mod Values
-mod After
-mod Visits
-mod Going

@@ -1,9 +1,0 @@
-use Rattle.r_copy.proofs.lemmas.Fits.{copies_count_the_same}
-use Rattle.r_copy.proofs.lemmas.Fits as fits
-use Rattle.r_copy.proofs.laws.copies_fit.Goals as goal
-
-pub returns-clause-fits : goal.returns-clause-fits
-returns-clause-fits c = fits.copies_fit
-
-pub returns-clause-count : goal.returns-clause-count
-returns-clause-count c = copies_count_the_same

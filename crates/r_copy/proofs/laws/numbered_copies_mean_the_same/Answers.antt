@@ -1,5 +1,0 @@
-use Rattle.r_copy.proofs.lemmas.Copies as copies
-use Rattle.r_copy.proofs.laws.numbered_copies_mean_the_same.Goals as goal
-
-pub returns : goal.returns
-returns c = copies.numbered_copies_mean_the_same

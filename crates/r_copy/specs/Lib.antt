@@ -1,4 +1,0 @@
-pub mod Numbering
-pub mod Laws
--- What is passed on of the libraries below.
-pub use Rattle.g_mean.specs as g_mean

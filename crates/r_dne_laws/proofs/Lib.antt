@@ -1,2 +1,0 @@
-mod Tests
-mod Listed

@@ -1,6 +1,0 @@
-use Rattle.std.specs.Prelude.{[]}
-use Rattle.r_fold_laws.proofs.Said as said
-use Rattle.r_fold_laws.proofs.laws.fold_is_local.Goals as goal
-
-pub returns : goal.returns
-returns c = said.fold_is_local (λ n l well. (c.fold_keeps_meaning.ensures.step [] n l well).well_formed)

@@ -1,4 +1,0 @@
-mod Called
-mod Known
-mod Chosen
-mod Said

@@ -1,0 +1,13 @@
+-- The law of the rule in a walk.
+use Rattle.g_graph.specs.declared.steps.Rule.TheVariants.{Invert}
+use Rattle.r_invert.specs.Rule.{applies, ivt}
+use Rattle.r_invert.specs.Asked.{invert_asked}
+use Rattle.r_sweep_def.specs.Swept.{Change}
+use Rattle.r_walk.specs.Laws.{IsLocal}
+
+abbrev pub invert_change : Change
+invert_change = record { rule = Invert; applies = applies; changed = ivt }
+
+-- The rule makes of each node what a walk is told.
+abbrev pub InvertIsLocal : Type 0
+InvertIsLocal = IsLocal invert_change invert_asked

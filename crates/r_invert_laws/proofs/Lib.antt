@@ -1,3 +1,0 @@
-pub mod Inverted
-mod Counted
-mod Said

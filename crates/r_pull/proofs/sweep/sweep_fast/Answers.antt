@@ -1,0 +1,10 @@
+-- The walk is the sweep.
+use Rattle.std.proofs.Common.{◌≡◌, subst}
+use Rattle.std.specs.Prelude.{IfOk}
+use Rattle.r_pull.proofs.sweep.sweep_fast.Goals as goal
+use Rattle.r_sweep_def.specs.Swept.{Logged}
+
+pub returns-clause-ok : goal.returns-clause-ok
+returns-clause-ok c =
+    let start : Logged = record { lambda = c.args.lambda; steps = c.args.log.now.items } in
+    subst (λ (z : Logged). IfOk c.walk.result (λ made. record { lambda = made; steps = c.walk.new.log.items } ≡ z)) (c.pull_walks_are_sweeps.ensures start c.requires.well_formed) c.walk.ensures.ok

@@ -1,4 +1,0 @@
-mod Examples
-mod Places
-mod Step
-mod Walks

@@ -1,5 +1,0 @@
-use Rattle.r_pull_laws.proofs.Walks as walks
-use Rattle.r_pull_laws.proofs.laws.pull_walks_are_sweeps.Goals as goal
-
-pub returns : goal.returns
-returns c = walks.pull_walks_are_sweeps c.pll_keeps_meaning.ensures.step

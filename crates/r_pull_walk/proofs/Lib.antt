@@ -1,5 +1,0 @@
-mod After
-mod Loops
-mod Steps
-mod Uses
-mod Written

@@ -1,9 +1,0 @@
-mod Around
-mod Grown
-mod Pushed
-mod Rooms
-mod Inner
-mod Tested
-mod Node
-mod Walks
-mod Examples

@@ -1,4 +1,0 @@
-mod Along
-mod Exits
-mod Growth
-mod Left

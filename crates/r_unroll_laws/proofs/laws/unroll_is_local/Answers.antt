@@ -1,6 +1,0 @@
-use Rattle.std.specs.Prelude.{[]}
-use Rattle.r_unroll_laws.proofs.Said as said
-use Rattle.r_unroll_laws.proofs.laws.unroll_is_local.Goals as goal
-
-pub returns : goal.returns
-returns c = said.unroll_is_local (λ n l well. (c.url_keeps_meaning.ensures.step [] n l well).well_formed)

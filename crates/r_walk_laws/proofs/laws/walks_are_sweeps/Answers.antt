@@ -1,5 +1,0 @@
-use Rattle.r_walk_laws.proofs.lemmas.Walks.{walks_are_sweeps}
-use Rattle.r_walk_laws.proofs.laws.walks_are_sweeps.Goals as goal
-
-pub returns : goal.returns
-returns c = walks_are_sweeps

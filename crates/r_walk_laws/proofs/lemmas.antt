@@ -1,7 +1,0 @@
--- Lemmas of walks that rules cite.
-pub mod Contexts
-pub mod Copies
-pub mod Local
-pub mod Moves
-pub mod Uses
-pub mod Walks

@@ -1,2 +1,0 @@
-pub mod Behaviour
-pub mod Laws

@@ -1,8 +1,0 @@
-use Rattle.rv_layout_keeps.proofs.Globals.{globals_are_shown, globals_have_blocks}
-use Rattle.rv_layout_keeps.proofs.laws.globals_are_shown.Goals as goal
-
-pub returns-clause-shown : goal.returns-clause-shown
-returns-clause-shown c = globals_are_shown
-
-pub returns-clause-blocks : goal.returns-clause-blocks
-returns-clause-blocks c = globals_have_blocks

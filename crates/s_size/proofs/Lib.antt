@@ -1,2 +1,0 @@
-mod ObjectLemmas
-mod SizeLemmas

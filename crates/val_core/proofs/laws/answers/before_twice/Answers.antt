@@ -1,5 +1,0 @@
-use Rattle.val_core.proofs.lemmas.Answers.{before_twice}
-use Rattle.val_core.proofs.laws.answers.before_twice.Goals as goal
-
-pub returns : goal.returns
-returns g c = before_twice

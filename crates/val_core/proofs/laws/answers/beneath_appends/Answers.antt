@@ -1,5 +1,0 @@
-use Rattle.val_core.proofs.lemmas.Events.{beneath_appends}
-use Rattle.val_core.proofs.laws.answers.beneath_appends.Goals as goal
-
-pub returns : goal.returns
-returns c = beneath_appends

@@ -1,5 +1,0 @@
-use Rattle.val_core.proofs.lemmas.Events.{deepest_appends}
-use Rattle.val_core.proofs.laws.answers.deepest_appends.Goals as goal
-
-pub returns : goal.returns
-returns c = deepest_appends

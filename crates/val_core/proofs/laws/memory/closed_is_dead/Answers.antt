@@ -1,5 +1,0 @@
-use Rattle.val_core.proofs.Lifetimes.{closed_is_dead}
-use Rattle.val_core.proofs.laws.memory.closed_is_dead.Goals as goal
-
-pub returns : goal.returns
-returns c = closed_is_dead

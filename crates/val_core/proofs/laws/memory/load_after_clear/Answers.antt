@@ -1,5 +1,0 @@
-use Rattle.val_core.proofs.Lifetimes.{load_after_clear}
-use Rattle.val_core.proofs.laws.memory.load_after_clear.Goals as goal
-
-pub returns : goal.returns
-returns c = load_after_clear

@@ -1,5 +1,0 @@
-use Rattle.val_core.proofs.Stores.{load_after_store}
-use Rattle.val_core.proofs.laws.memory.load_after_store.Goals as goal
-
-pub returns : goal.returns
-returns c = load_after_store

@@ -1,5 +1,0 @@
-use Rattle.val_core.proofs.Stores.{load_elsewhere}
-use Rattle.val_core.proofs.laws.memory.load_elsewhere.Goals as goal
-
-pub returns : goal.returns
-returns c = load_elsewhere

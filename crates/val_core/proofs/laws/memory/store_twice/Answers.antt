@@ -1,5 +1,0 @@
-use Rattle.val_core.proofs.Stores.{store_twice}
-use Rattle.val_core.proofs.laws.memory.store_twice.Goals as goal
-
-pub returns : goal.returns
-returns c = store_twice

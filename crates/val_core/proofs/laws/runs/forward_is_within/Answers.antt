@@ -1,9 +1,0 @@
-use Rattle.val_core.specs.Refinement.{exactly, no_deeper}
-use Rattle.val_core.proofs.lemmas.Refinement.{exactly-output, forward-within, no_deeper-output}
-use Rattle.val_core.proofs.laws.runs.forward_is_within.Goals as goal
-
-pub returns-clause-exact : goal.returns-clause-exact
-returns-clause-exact g c = forward-within exactly exactly-output g.A.Related.relate
-
-pub returns-clause-deep : goal.returns-clause-deep
-returns-clause-deep g c = forward-within no_deeper no_deeper-output g.A.Related.relate

@@ -1,5 +1,0 @@
-use Rattle.val_core.proofs.lemmas.Words.{gives_word2}
-use Rattle.val_core.proofs.laws.values.gives_word2.Goals as goal
-
-pub returns : goal.returns
-returns c = gives_word2

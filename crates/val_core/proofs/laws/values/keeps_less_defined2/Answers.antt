@@ -1,5 +1,0 @@
-use Rattle.val_core.proofs.lemmas.Values.{keeps_less_defined2}
-use Rattle.val_core.proofs.laws.values.keeps_less_defined2.Goals as goal
-
-pub returns : goal.returns
-returns c = keeps_less_defined2

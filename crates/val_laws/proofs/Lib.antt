@@ -1,0 +1,5 @@
+mod Blocks
+mod Cells
+mod Stores
+mod Lifetimes
+pub mod lemmas

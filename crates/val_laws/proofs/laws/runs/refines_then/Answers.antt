@@ -1,0 +1,9 @@
+use Rattle.val_core.specs.Refinement.{exactly, no_deeper}
+use Rattle.val_core.proofs.lemmas.Refinement.{exactly-goes, refines-then, no_deeper-goes}
+use Rattle.val_laws.proofs.laws.runs.refines_then.Goals as goal
+
+pub returns-clause-exact : goal.returns-clause-exact
+returns-clause-exact g c = refines-then exactly exactly-goes g.A.Related.relate g.C.Related.relate
+
+pub returns-clause-deep : goal.returns-clause-deep
+returns-clause-deep g c = refines-then no_deeper no_deeper-goes g.A.Related.relate g.C.Related.relate

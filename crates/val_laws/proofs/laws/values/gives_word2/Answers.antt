@@ -1,0 +1,5 @@
+use Rattle.val_core.proofs.lemmas.Words.{gives_word2}
+use Rattle.val_laws.proofs.laws.values.gives_word2.Goals as goal
+
+pub returns : goal.returns
+returns c = gives_word2
