@@ -1,7 +1,7 @@
 -- A text that is of no recipe.
 use Rattle.std.proofs.Common.{◌≢◌, ◌≤◌, ℕ, List, length}
 use Rattle.base.specs.Limits.{most_sweeps}
-use Rattle.g_graph.specs.declared.steps.Rule.{Rule}
+use Rattle.r_rule.specs.declared.steps.Rule.{Rule}
 use Rattle.g_pass.specs.Recipe.{recipe_text}
 use Rattle.cc_compile.specs.RecipeText.{IsTextOf}
 

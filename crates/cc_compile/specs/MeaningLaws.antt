@@ -1,8 +1,9 @@
 -- Laws of the meaning of images.
 use Rattle.std.specs.Prelude.{ℕ, Bool, List}
 use Rattle.c_typed.specs.Typed.{ProgramTree}
-use Rattle.g_graph.specs.declared.steps.Rule.{Rule}
-use Rattle.g_graph.specs.Plain.{PlainLambda, PlainOptimised}
+use Rattle.r_rule.specs.declared.steps.Rule.{Rule}
+use Rattle.g_graph.specs.Plain.{PlainLambda}
+use Rattle.r_rule.specs.Optimised.{PlainOptimised}
 use Rattle.g_build_def.specs.Functions.{graph, omega}
 use Rattle.g_build_keeps.specs.Laws.{HasMeaning}
 use Rattle.g_pass_def.specs.Answers.{AreAnswers}

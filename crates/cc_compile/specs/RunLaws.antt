@@ -4,7 +4,7 @@ use Rattle.val_core.specs.Events.{IsPrefixOf}
 use Rattle.c_typed.specs.Typed.{ProgramTree}
 use Rattle.c_mean.specs.Run as source
 use Rattle.c_mean.specs.Run.{heard}
-use Rattle.g_graph.specs.declared.steps.Rule.{Rule}
+use Rattle.r_rule.specs.declared.steps.Rule.{Rule}
 use Rattle.g_graph.specs.Plain.{PlainLambda}
 use Rattle.s_linear.specs.declared.frame.CodeForm.{CodeForm}
 use Rattle.g_mean.specs.LessDefined.{AreBytes}

@@ -1,7 +1,7 @@
 //! The recipe of a text.
 
 ghost use Rattle.std.specs.Prelude.{List, IfSome, IfNone};
-ghost use Rattle.g_graph.specs.declared.steps.Rule.{Rule};
+ghost use Rattle.r_rule.specs.declared.steps.Rule.{Rule};
 ghost use Rattle.cc_compile.specs.RecipeText.{IsTextOf};
 
 use g_pass::Recipe;

@@ -10,7 +10,8 @@ ghost use Rattle.cc_compile.specs.Compiled.{row_of, rows_of};
 use base::NoMemory;
 use c_typed::{TFunction, Typed};
 use cc_watch::Row;
-use g_graph::{Optimised, StepList, values};
+use g_graph::values;
+use r_rule::{Optimised, StepList};
 use std::alloc::Global;
 use std::sync::Arc;
 

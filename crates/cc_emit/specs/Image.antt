@@ -3,7 +3,8 @@
 use Rattle.std.specs.Prelude.{ℕ, List, map, unwrap_or}
 use Rattle.elf_file.specs.Image.{Sections}
 use Rattle.elf_file.specs.Written.{file_of}
-use Rattle.g_graph.specs.Plain.{PlainLambda, PlainOmega, PlainOptimised}
+use Rattle.g_graph.specs.Plain.{PlainLambda, PlainOmega}
+use Rattle.r_rule.specs.Optimised.{PlainOptimised}
 use Rattle.g_graph.specs.Program.{IsProgram, IsWithinLimits, main_name, name_index}
 use Rattle.s_linear.specs.Frame.{PlainPlaces, frame_size}
 use Rattle.s_linear.specs.Linear.{LinearFunction}

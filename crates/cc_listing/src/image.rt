@@ -18,7 +18,8 @@ use crate::symbols::{push_commands, push_stub};
 use crate::words::{cut, words_in};
 use base::{Name, NoMemory};
 use elf_file::{Image, TEXT_AT};
-use g_graph::{Omega, Optimised};
+use g_graph::Omega;
+use r_rule::Optimised;
 use std::alloc::Global;
 use std::sync::Arc;
 

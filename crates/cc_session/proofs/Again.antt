@@ -5,7 +5,7 @@ use Rattle.std.proofs.lemmas.Bool.{cases_lt}
 use Rattle.std.proofs.lemmas.List.{get_or-map, get_or_past, length-map}
 use Rattle.std.proofs.lemmas.List.Sums.{sum_by-cons}
 use Rattle.call_order.specs.Units.{IsPath}
-use Rattle.g_graph.specs.declared.steps.Rule.{Rule}
+use Rattle.r_rule.specs.declared.steps.Rule.{Rule}
 use Rattle.g_graph.specs.Plain.{PlainLambda}
 use Rattle.s_linear.specs.declared.frame.CodeForm.{CodeForm}
 use Rattle.g_pass_order.specs.Calls.{IsOrder, no_lambda}

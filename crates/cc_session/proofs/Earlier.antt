@@ -1,7 +1,7 @@
 -- The lambdas of a source, of which answers are kept.
 use Rattle.std.proofs.Common.{ℕ, Bool, List, [], refl, sym, subst, arith}
 use Rattle.std.specs.Prelude.{Option, None, Some}
-use Rattle.g_graph.specs.declared.steps.Rule.{Rule}
+use Rattle.r_rule.specs.declared.steps.Rule.{Rule}
 use Rattle.g_graph.specs.Plain.{PlainLambda}
 use Rattle.g_pass_order.specs.Calls.{IsOrder}
 use Rattle.g_pass_def.specs.Answers.{AreAnswers}

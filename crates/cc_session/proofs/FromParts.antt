@@ -1,8 +1,9 @@
 -- What a rebuild gives, from its parts.
 use Rattle.std.proofs.Common.{◌≡◌, ◌<◌, ◌^◌, ◌∙◌, ℕ, Bool, List, slice_get, refl, sym, subst, arith}
 use Rattle.std.specs.Prelude.{Option, None, Some, count_by}
-use Rattle.g_graph.specs.declared.steps.Rule.{Rule}
-use Rattle.g_graph.specs.Plain.{PlainLambda, PlainOptimised}
+use Rattle.r_rule.specs.declared.steps.Rule.{Rule}
+use Rattle.g_graph.specs.Plain.{PlainLambda}
+use Rattle.r_rule.specs.Optimised.{PlainOptimised}
 use Rattle.g_graph.specs.Program.{lambda_values}
 use Rattle.g_build_def.specs.Functions as built
 use Rattle.s_linear.specs.declared.frame.CodeForm.{CodeForm}

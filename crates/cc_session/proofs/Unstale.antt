@@ -2,8 +2,9 @@
 use Rattle.std.proofs.Common.{◌≡◌, ◌∙◌, ℕ, Bool, true, false, List, refl, sym, ap, subst, option_map}
 use Rattle.std.proofs.lemmas.Option.{slice_get-map}
 use Rattle.std.specs.Prelude.{Option, None, Some, slice_get, slice_index_or}
-use Rattle.g_graph.specs.declared.steps.Rule.{Rule}
-use Rattle.g_graph.specs.Plain.{PlainLambda, PlainOptimised}
+use Rattle.r_rule.specs.declared.steps.Rule.{Rule}
+use Rattle.g_graph.specs.Plain.{PlainLambda}
+use Rattle.r_rule.specs.Optimised.{PlainOptimised}
 use Rattle.g_pass_order.specs.Laws.{OrdersAreUnique}
 use Rattle.g_pass.specs.Sweep.{rules}
 use Rattle.g_pass_work.specs.Laws.{UnstaleAnswersAreKept}

@@ -1,6 +1,6 @@
 -- The items of functions, and which of them stay.
 use Rattle.std.specs.Prelude.{◌≡◌, ℕ, Bool, true, false, Option, None, Some, List, [], map, slice_get, slice_index_or}
-use Rattle.g_graph.specs.Plain.{PlainOptimised}
+use Rattle.r_rule.specs.Optimised.{PlainOptimised}
 use Rattle.s_linear.specs.declared.frame.CodeForm.{CodeForm}
 use Rattle.rv_layout.specs.declared.item.Item.{Item}
 use Rattle.cc_emit.specs.Image.{function_items, lambdas_of}

@@ -1,10 +1,12 @@
 -- What contracts see of a session, what is kept in it, and what an edit does to it.
 use Rattle.std.specs.Prelude.{◌≡◌, ℕ, Option, None, Some, List, [], refl}
 use Rattle.std.specs.Coded.{Coded, code_by, coded×, coded_list, coded_option, coded_ℕ}
-use Rattle.g_graph.specs.declared.steps.Rule.{Rule}
-use Rattle.g_graph.specs.contracts.steps.Rule as rule
-use Rattle.g_graph.specs.Plain.{PlainLambda, PlainOptimised}
-use Rattle.g_graph.specs.Codes.{coded_lambda, coded_optimised}
+use Rattle.r_rule.specs.declared.steps.Rule.{Rule}
+use Rattle.r_rule.specs.contracts.steps.Rule as rule
+use Rattle.g_graph.specs.Plain.{PlainLambda}
+use Rattle.r_rule.specs.Optimised.{PlainOptimised}
+use Rattle.g_graph.specs.Codes.{coded_lambda}
+use Rattle.r_rule.specs.Optimised.{coded_optimised}
 use Rattle.g_build_def.specs.Functions.{graph}
 use Rattle.s_linear.specs.declared.frame.CodeForm.{CodeForm}
 use Rattle.s_linear.specs.contracts.frame.CodeForm as code_form

@@ -10,7 +10,8 @@ ghost use Rattle.cc_session.specs.Items.{items_of, AreItemsKept};
 
 use base::NoMemory;
 use cc_emit::function_items;
-use g_graph::{Lambda, Optimised};
+use g_graph::Lambda;
+use r_rule::Optimised;
 use rv_layout::Item;
 use s_linear::CodeForm;
 use std::alloc::Global;

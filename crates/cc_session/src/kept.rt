@@ -7,7 +7,8 @@ ghost use Rattle.rv_layout.specs.Layout.{item_lists};
 ghost use Rattle.cc_session.specs.Session.{answers_of, deps_of, lambdas_of, IsImageKept};
 ghost use Rattle.cc_session.specs.Items.{kept_items};
 
-use g_graph::{Lambda, Optimised};
+use g_graph::Lambda;
+use r_rule::Optimised;
 use rv_layout::Item;
 use s_linear::CodeForm;
 use std::marker::Model;

@@ -5,7 +5,7 @@
 use crate::row::{Row, bytes_of, say_bytes, split};
 use base::{Name, NoMemory};
 use cc_watch::Watcher;
-use g_graph::{Rule, Step, StepList};
+use r_rule::{Rule, Step, StepList};
 use std::alloc::Global;
 
 fn rule_named(name: &str) -> Rule {

@@ -1,7 +1,7 @@
 -- How the command without arguments ends, from how its steps did.
 use Rattle.std.proofs.Common.{◌≡◌, ℕ, List, take, refl}
 use Rattle.std.specs.Option.{ForSome}
-use Rattle.g_graph.specs.declared.steps.Rule.{Rule}
+use Rattle.r_rule.specs.declared.steps.Rule.{Rule}
 use Rattle.s_linear.specs.declared.frame.CodeForm.{CodeForm}
 use Rattle.cc_watch.specs.Rows.{PlainRow}
 use Rattle.cc_top.specs.AcceptEnds.{AcceptCause, IsTold}

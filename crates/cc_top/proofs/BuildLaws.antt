@@ -1,6 +1,6 @@
 -- Two builds that were done leave the same files.
 use Rattle.std.proofs.Common.{◌≡◌, List, Option, None, Some, option_map, refl, ap, sym, subst, ◌∙◌}
-use Rattle.g_graph.specs.declared.steps.Rule.{Rule}
+use Rattle.r_rule.specs.declared.steps.Rule.{Rule}
 use Rattle.s_linear.specs.declared.frame.CodeForm.{CodeForm}
 use Rattle.cc_source.specs.Accepted.{Accepts, OneProgram}
 use Rattle.cc_compile.specs.Compiled.{IsImageUnder, OneImage}

@@ -1,7 +1,7 @@
 -- How a build ends.
 use Rattle.std.proofs.Common.{◌≡◌, ◌≢◌, ◌⊎◌, ℕ, ◌≤◌, true, false, List, Option, length, take, option_map, refl, ap, sym, ◌∙◌, subst, inl, inr}
 use Rattle.std.proofs.lemmas.Bool.{false≢true}
-use Rattle.g_graph.specs.declared.steps.Rule.{Rule}
+use Rattle.r_rule.specs.declared.steps.Rule.{Rule}
 use Rattle.s_linear.specs.declared.frame.CodeForm.{CodeForm}
 use Rattle.cc_io.specs.Files.{Name, FileSet, put_file}
 use Rattle.g_pass.specs.Recipe.{OneRecipe}

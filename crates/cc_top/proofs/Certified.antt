@@ -7,9 +7,10 @@ use Rattle.base.specs.Limits.{most_sweeps}
 use Rattle.c_typed.specs.Typed.{FunctionTree, ProgramTree}
 use Rattle.c_typed.specs.WellTyped.{IsWellTyped}
 use Rattle.c_check_def.specs.Limits.{above_limits}
-use Rattle.g_graph.specs.declared.steps.Rule.{Rule}
+use Rattle.r_rule.specs.declared.steps.Rule.{Rule}
 use Rattle.g_graph.specs.Lists.{IsComplete}
-use Rattle.g_graph.specs.Plain.{PlainLambda, PlainOptimised}
+use Rattle.g_graph.specs.Plain.{PlainLambda}
+use Rattle.r_rule.specs.Optimised.{PlainOptimised}
 use Rattle.g_graph.specs.Program.{lambda_values}
 use Rattle.g_build.specs.Passed.{limit_passed}
 use Rattle.g_build_def.specs.Functions as built

@@ -6,8 +6,9 @@ use Rattle.std.proofs.lemmas.List.Sums.{sum_by-cons}
 use Rattle.std.proofs.lemmas.Nat.{mul-le}
 use Rattle.base.specs.Limits.{most_lambda_values, most_grown_values, most_sweeps}
 use Rattle.c_typed.specs.Typed.{FunctionTree}
-use Rattle.g_graph.specs.declared.steps.Rule.{Rule}
-use Rattle.g_graph.specs.Plain.{PlainLambda, PlainOptimised}
+use Rattle.r_rule.specs.declared.steps.Rule.{Rule}
+use Rattle.g_graph.specs.Plain.{PlainLambda}
+use Rattle.r_rule.specs.Optimised.{PlainOptimised}
 use Rattle.g_graph.specs.Program.{lambda_values}
 use Rattle.g_pass_def.specs.Answers.{lambda_of, lambdas_of}
 use Rattle.g_pass.specs.StepLaws.{AreFewSteps}

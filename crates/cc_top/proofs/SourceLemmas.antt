@@ -1,7 +1,7 @@
 -- What the bytes that were read compile to, the source compiles to.
 use Rattle.std.proofs.Common.{◌≡◌, ℕ, List, take, Option, subst}
 use Rattle.std.specs.Option.{ForSome}
-use Rattle.g_graph.specs.declared.steps.Rule.{Rule}
+use Rattle.r_rule.specs.declared.steps.Rule.{Rule}
 use Rattle.s_linear.specs.declared.frame.CodeForm.{CodeForm}
 use Rattle.cc_source.specs.Accepted.{Accepts}
 use Rattle.cc_watch.specs.Rows.{PlainRow}

@@ -1,6 +1,6 @@
 -- A session under the recipe of a text.
 use Rattle.std.proofs.Common.{ℕ, List, refl, sym, ◌∙◌, subst, inl}
-use Rattle.g_graph.specs.declared.steps.Rule.{Rule}
+use Rattle.r_rule.specs.declared.steps.Rule.{Rule}
 use Rattle.s_linear.specs.declared.frame.CodeForm.{CodeForm}
 use Rattle.g_pass.specs.Recipe.{OneRecipe}
 use Rattle.cc_compile.specs.RecipeText.{IsTextOf}

@@ -2,7 +2,7 @@
 use Rattle.std.specs.Prelude.{◌≡◌, ◌≤◌, ◌⊎◌, ℕ, true, List, length, Option, Some, None, Ok}
 use Rattle.std.specs.Option.{ForSome}
 use Rattle.base.specs.Limits.{most_sweeps}
-use Rattle.g_graph.specs.declared.steps.Rule.{Rule}
+use Rattle.r_rule.specs.declared.steps.Rule.{Rule}
 use Rattle.s_linear.specs.declared.frame.CodeForm.{CodeForm}
 use Rattle.c_typed.specs.Typed.{ProgramTree}
 use Rattle.elf_file.specs.Loading.{Executable, loaded}

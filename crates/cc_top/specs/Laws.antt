@@ -1,7 +1,7 @@
 -- The law of what a build reports.
 use Rattle.std.specs.Prelude.{◌≡◌, ◌≤◌, ℕ, List, [], Some, length}
 use Rattle.base.specs.Limits.{most_sweeps}
-use Rattle.g_graph.specs.declared.steps.Rule.{Rule}
+use Rattle.r_rule.specs.declared.steps.Rule.{Rule}
 use Rattle.s_linear.specs.declared.frame.CodeForm.{CodeForm}
 use Rattle.cc_watch.specs.Rows.{PlainRow}
 use Rattle.cc_io.specs.Files.{Name}

@@ -1,7 +1,7 @@
 -- How `session` ends: the cause of each outcome, and what the files, the input and the output hold then.
 use Rattle.std.specs.Prelude.{◌≡◌, ◌⊎◌, ℕ, None, List}
 use Rattle.std.specs.Option.{ForSome}
-use Rattle.g_graph.specs.declared.steps.Rule.{Rule}
+use Rattle.r_rule.specs.declared.steps.Rule.{Rule}
 use Rattle.s_linear.specs.declared.frame.CodeForm.{CodeForm}
 use Rattle.cc_compile.specs.RecipeText.{IsTextOf}
 use Rattle.cc_io.specs.Files.{Name, content}

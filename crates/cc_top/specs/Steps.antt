@@ -1,7 +1,7 @@
 -- One command of a session: how it is read, carried out and answered, and what holds between two of them.
 use Rattle.std.specs.Prelude.{◌≡◌, ◌⊎◌, ◌<◌, ◌≤◌, ℕ, suc, Option, None, Some, Result, Ok, Err, List, [], ◌++◌, length, take}
 use Rattle.std.specs.Option.{ForSome}
-use Rattle.g_graph.specs.declared.steps.Rule.{Rule}
+use Rattle.r_rule.specs.declared.steps.Rule.{Rule}
 use Rattle.s_linear.specs.declared.frame.CodeForm.{CodeForm}
 use Rattle.cc_io.specs.Faults.{Increased}
 use Rattle.cc_io.specs.Files.{Name, FileSet, content}

@@ -4,7 +4,7 @@ use Rattle.std.specs.Option.{ForSome}
 use Rattle.std.proofs.lemmas.List.{length-take, take_all}
 use Rattle.std.proofs.lemmas.Option.{same_Some}
 use Rattle.base.specs.Limits.{most_source_bytes}
-use Rattle.g_graph.specs.declared.steps.Rule.{Rule}
+use Rattle.r_rule.specs.declared.steps.Rule.{Rule}
 use Rattle.cc_io.specs.Files.{Name, FileSet, content}
 use Rattle.cc_io.specs.Sink.{append}
 use Rattle.cc_io.proofs.lemmas.Sink.{append-none}

@@ -3,7 +3,8 @@ use Rattle.std.proofs.Common.{◌≡◌, ℕ, ◌+◌, ◌<◌, refl, sym, ap, �
 use Rattle.std.proofs.lemmas.List.{map-append, take_more}
 use Rattle.std.proofs.lemmas.Option.{slice_get-map, slice_get_read}
 use Rattle.std.specs.Prelude.{slice_get}
-use Rattle.g_graph.specs.Plain.{PlainLambda, PlainObject, PlainOptimised}
+use Rattle.g_graph.specs.Plain.{PlainLambda, PlainObject}
+use Rattle.r_rule.specs.Optimised.{PlainOptimised}
 use Rattle.s_linear.specs.Frame.{PlainPlaces, frame_size}
 use Rattle.s_linear.specs.Lines.{Line}
 use Rattle.s_linear.specs.declared.frame.CodeForm.TheVariants.{Plain}

@@ -1,7 +1,8 @@
 -- What a command shows of a source that is not made, or for which memory ran out.
 use Rattle.std.proofs.Common.{◌≡◌, ℕ, List, [], Option, sym, subst}
-use Rattle.g_graph.specs.declared.steps.Rule.{Rule}
-use Rattle.g_graph.specs.Plain.{PlainOmega, PlainOptimised}
+use Rattle.r_rule.specs.declared.steps.Rule.{Rule}
+use Rattle.g_graph.specs.Plain.{PlainOmega}
+use Rattle.r_rule.specs.Optimised.{PlainOptimised}
 use Rattle.g_pass_def.specs.Answers.{AreAnswers}
 use Rattle.g_pass.specs.Sweep.{rules}
 use Rattle.cc_source.specs.Refused.{IsRejectionOf}

@@ -1,7 +1,8 @@
 -- What a command shows of the text of a source under a recipe, and how it ends.
 use Rattle.std.specs.Prelude.{◌≡◌, ℕ, List, [], Option, Some, None, length}
-use Rattle.g_graph.specs.declared.steps.Rule.{Rule}
-use Rattle.g_graph.specs.Plain.{PlainOmega, PlainOptimised}
+use Rattle.r_rule.specs.declared.steps.Rule.{Rule}
+use Rattle.g_graph.specs.Plain.{PlainOmega}
+use Rattle.r_rule.specs.Optimised.{PlainOptimised}
 use Rattle.cc_emit.specs.Image.{lambdas_of}
 use Rattle.cc_listing.specs.Lines.{IsListing}
 use Rattle.cc_source.specs.Accepted.{Refuses}

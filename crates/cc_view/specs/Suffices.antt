@@ -3,8 +3,9 @@ use Rattle.std.specs.Prelude.{◌≡◌, ℕ, ◌≤◌, List, Option, Some, Ok}
 use Rattle.val_core.specs.Answers.{IsUndefined}
 use Rattle.c_typed.specs.Typed.{ProgramTree}
 use Rattle.c_mean.specs.Run.{run}
-use Rattle.g_graph.specs.declared.steps.Rule.{Rule}
-use Rattle.g_graph.specs.Plain.{PlainLambda, PlainOptimised}
+use Rattle.r_rule.specs.declared.steps.Rule.{Rule}
+use Rattle.g_graph.specs.Plain.{PlainLambda}
+use Rattle.r_rule.specs.Optimised.{PlainOptimised}
 use Rattle.g_graph.specs.Program.{name_index, main_name}
 use Rattle.g_build_def.specs.Functions.{graph, omega}
 use Rattle.g_mean.specs.LessDefined.{AreBytes}

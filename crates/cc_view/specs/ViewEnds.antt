@@ -2,7 +2,7 @@
 use Rattle.std.specs.Prelude.{◌≡◌, ◌⊎◌, ◌+◌, ◌++◌, ℕ, List, codes, take, Option, Some, None}
 use Rattle.std.specs.Option.{ForSome}
 use Rattle.base.specs.Limits.{most_source_bytes}
-use Rattle.g_graph.specs.declared.steps.Rule.{Rule}
+use Rattle.r_rule.specs.declared.steps.Rule.{Rule}
 use Rattle.cc_io.specs.Faults.{Increased}
 use Rattle.cc_io.specs.Files.{Name, FileSet, content}
 use Rattle.cc_io.specs.Sink.{append}

@@ -10,7 +10,8 @@ ghost use Rattle.cc_emit.specs.Images.{frames};
 
 use a_place::{frame, place};
 use base::NoMemory;
-use g_graph::{Lambda, Optimised, copy_of};
+use g_graph::{Lambda, copy_of};
+use r_rule::Optimised;
 use s_sequence::sequence;
 use std::alloc::Global;
 use std::sync::Arc;

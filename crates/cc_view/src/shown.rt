@@ -2,7 +2,7 @@
 
 ghost use Rattle.std.specs.Prelude.{◌≡◌, ◌<◌, ◌^◌, List, Option, ℕ, [], None, Some, length, map, option_map};
 ghost use Rattle.std.specs.Arc.{arc_value};
-ghost use Rattle.g_graph.specs.declared.steps.Rule.{Rule};
+ghost use Rattle.r_rule.specs.declared.steps.Rule.{Rule};
 ghost use Rattle.cc_source.specs.Accepted.{Refuses};
 ghost use Rattle.cc_source.specs.Refused.{IsRejectionOf};
 ghost use Rattle.cc_report.specs.declared.outcome.Outcome.TheVariants.{Done};

@@ -6,7 +6,8 @@ use Rattle.std.proofs.lemmas.Option.{same_Some, slice_get-get_or, slice_get-map}
 use Rattle.board_core.specs.Answers.{all_some, answer}
 use Rattle.board_core.proofs.lemmas.Answers.{all_some-cons}
 use Rattle.call_order.specs.Units.{call_lists}
-use Rattle.g_graph.specs.Plain.{PlainLambda, PlainOptimised}
+use Rattle.g_graph.specs.Plain.{PlainLambda}
+use Rattle.r_rule.specs.Optimised.{PlainOptimised}
 use Rattle.g_pass_order.specs.Calls.{no_lambda, IsOrder}
 use Rattle.g_pass_order.specs.Laws.{OrdersAreRanked, OrdersAreUnique}
 use Rattle.g_pass_def.specs.Answers.{lambda_of, lambdas_of, program}

@@ -1,7 +1,8 @@
 -- The graph of one function, from the lambda that is drawn.
 use Rattle.std.proofs.Common.{◌≡◌, ℕ, List, [], Option, None, Some, Vec, Global, sym, subst}
 use Rattle.std.specs.Prelude.{IfSome}
-use Rattle.g_graph.specs.Plain.{PlainLambda, PlainOptimised}
+use Rattle.g_graph.specs.Plain.{PlainLambda}
+use Rattle.r_rule.specs.Optimised.{PlainOptimised}
 use Rattle.cc_view_source.specs.declared.arguments.Drawing.{Drawing}
 use Rattle.cc_view_source.specs.Drawn.{function_named, AreAfter, AreOneShown, IsShown}
 

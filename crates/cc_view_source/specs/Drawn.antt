@@ -1,8 +1,9 @@
 -- Which lambdas are drawn of a program, and how.
 use Rattle.std.specs.Prelude.{◌≡◌, ◌<◌, ◌≤◌, ℕ, zero, suc, List, [], ◌++◌, Option, None, Some, length, take, position, slice_get}
 use Rattle.std.specs.Str.{bytes_eq}
-use Rattle.g_graph.specs.declared.steps.Rule.{Rule}
-use Rattle.g_graph.specs.Plain.{PlainLambda, PlainOptimised}
+use Rattle.r_rule.specs.declared.steps.Rule.{Rule}
+use Rattle.g_graph.specs.Plain.{PlainLambda}
+use Rattle.r_rule.specs.Optimised.{PlainOptimised}
 use Rattle.g_pass_def.specs.Answers.{lambda_of, AreAnswers}
 use Rattle.g_pass_def.specs.Sweep.{replayed}
 use Rattle.g_pass.specs.Sweep.{rules}

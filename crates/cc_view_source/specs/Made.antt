@@ -1,8 +1,9 @@
 -- What is made of an accepted source under a recipe.
 use Rattle.std.specs.Prelude.{◌≡◌, ◌<◌, ℕ, List, Some, length, slice_get}
 use Rattle.c_typed.specs.Typed.{ProgramTree}
-use Rattle.g_graph.specs.declared.steps.Rule.{Rule}
-use Rattle.g_graph.specs.Plain.{PlainLambda, PlainOmega, PlainOptimised}
+use Rattle.r_rule.specs.declared.steps.Rule.{Rule}
+use Rattle.g_graph.specs.Plain.{PlainLambda, PlainOmega}
+use Rattle.r_rule.specs.Optimised.{PlainOptimised}
 use Rattle.g_build_def.specs.Functions as built
 use Rattle.g_pass_def.specs.Answers.{AreAnswers, lambda_of}
 use Rattle.g_pass_def.specs.Sweep.{optimise}

@@ -1,7 +1,8 @@
 -- What the sweeps of a recipe do to the functions of a program, as a text.
 use Rattle.std.specs.Prelude.{◌≡◌, ℕ, zero, suc, ◌+◌, List, [], ◌∷◌, ◌++◌, codes, decimal}
-use Rattle.g_graph.specs.declared.steps.Rule.{Rule}
-use Rattle.g_graph.specs.Plain.{PlainLambda, PlainOmega, PlainOptimised}
+use Rattle.r_rule.specs.declared.steps.Rule.{Rule}
+use Rattle.g_graph.specs.Plain.{PlainLambda, PlainOmega}
+use Rattle.r_rule.specs.Optimised.{PlainOptimised}
 use Rattle.g_pass_def.specs.Answers.{lambda_of}
 use Rattle.g_pass.specs.Counts.{counts_of}
 use Rattle.g_pass.specs.declared.replayed_sweeps.SweepCount.{SweepCount}

@@ -7,7 +7,7 @@ ghost use Rattle.cc_view_source.specs.Drawn.{AreShown};
 use crate::showing::{answer_at, push_shown};
 use crate::{Drawing, Made, function_name};
 use base::{Name, NoMemory};
-use g_graph::Optimised;
+use r_rule::Optimised;
 use std::alloc::Global;
 use std::sync::Arc;
 

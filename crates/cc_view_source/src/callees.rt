@@ -9,9 +9,10 @@ ghost use Rattle.g_pass_def.specs.Replayed.{lambdas_at};
 ghost use Rattle.cc_view_source.specs.Made.{AreCallees};
 
 use base::NoMemory;
-use g_graph::{Lambda, Optimised};
+use g_graph::Lambda;
 use g_pass_order::Order;
 use g_pass_order::laws::orders_are_unique;
+use r_rule::Optimised;
 use std::alloc::Global;
 use std::sync::Arc;
 

@@ -16,9 +16,10 @@ use cc_compile::laws::answers_can_be_emitted;
 use cc_source::meaning_laws::programs_can_be_emitted;
 use cc_source::{CompileFault, typed_of};
 use g_build::{BuildFault, build};
-use g_graph::{Omega, Optimised};
+use g_graph::Omega;
 use g_pass::Recipe;
 use g_pass_work::answers;
+use r_rule::Optimised;
 use std::alloc::Global;
 use std::sync::Arc;
 

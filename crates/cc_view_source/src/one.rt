@@ -9,11 +9,12 @@ ghost use Rattle.cc_view_source.specs.Drawn.{function_named, AreAfter, AreOneSho
 use crate::showing::{answer_at, push_shown};
 use crate::{Drawing, Made, callees_at};
 use base::{Name, NoMemory};
-use g_graph::{Lambda, Optimised};
+use g_graph::Lambda;
 use g_pass::replayed;
 use g_pass_def::laws::recipes_are_steps;
 use g_pass_order::laws::complete_lists_know_calls;
 use g_pass_order::order;
+use r_rule::Optimised;
 use std::alloc::Global;
 use std::sync::Arc;
 

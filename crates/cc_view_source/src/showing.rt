@@ -6,8 +6,9 @@ ghost use Rattle.cc_view_source.specs.Drawn.{IsShown};
 
 use crate::Drawing;
 use base::{Name, NoMemory};
-use g_graph::{Lambda, Optimised};
+use g_graph::Lambda;
 use g_text::{write_graph, write_lambda};
+use r_rule::Optimised;
 use std::alloc::Global;
 use std::sync::Arc;
 

@@ -15,10 +15,11 @@ ghost use Rattle.cc_view_source.specs.Tables.{AreTables, IsTable};
 use crate::text::push_table;
 use crate::{Made, callees_at, function_name};
 use base::NoMemory;
-use g_graph::{Lambda, Omega, Optimised, copy_of};
+use g_graph::{Lambda, Omega, copy_of};
 use g_pass::{Recipe, SweepCount, sweep_counts};
 use g_pass_order::laws::complete_lists_know_calls;
 use g_pass_order::{Order, order};
+use r_rule::Optimised;
 use std::alloc::Global;
 use std::sync::Arc;
 

@@ -1,6 +1,6 @@
 -- What a counter stands for: its twelve sums are those of the rows, modulo 2^32.
 use Rattle.std.specs.Prelude.{◌≡◌, ◌%◌, ◌^◌, List, length, slice_index, sum_by}
-use Rattle.g_graph.specs.declared.steps.Rule.{Rule}
+use Rattle.r_rule.specs.declared.steps.Rule.{Rule}
 use Rattle.cc_watch.specs.Rows.{PlainRow}
 use Rattle.r_rule.specs.Names.{rule_place}
 use Rattle.cc_watch.specs.Texts.{applied}

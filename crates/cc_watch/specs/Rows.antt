@@ -2,8 +2,8 @@
 use Rattle.std.specs.Prelude.{ℕ, List}
 use Rattle.std.proofs.Common.{refl}
 use Rattle.std.specs.Coded.{Coded, code_by, coded×, coded_ℕ, coded_list}
-use Rattle.g_graph.specs.declared.steps.Step.{Step}
-use Rattle.g_graph.specs.Codes.{coded_steps}
+use Rattle.r_rule.specs.declared.steps.Step.{Step}
+use Rattle.r_rule.specs.Optimised.{coded_steps}
 
 -- The name of the function, how many values its graph has before and after, and the steps that were applied, in order.
 pub record PlainRow : Type 0 where

@@ -1,7 +1,7 @@
 -- The texts of a list of rows, and a text that begins with another one.
 use Rattle.std.specs.Prelude.{◌≡◌, ℕ, ◌++◌, ◌==◌, ◌%◌, ◌^◌, List, length, codes, decimal, flat_map, count_by, sum_by}
-use Rattle.g_graph.specs.declared.steps.Rule.{Rule}
-use Rattle.g_graph.specs.declared.steps.Step.{Step}
+use Rattle.r_rule.specs.declared.steps.Rule.{Rule}
+use Rattle.r_rule.specs.declared.steps.Step.{Step}
 use Rattle.r_rule.specs.Names.{rule_name, all_rules, rule_place}
 use Rattle.cc_watch.specs.Rows.{PlainRow}
 

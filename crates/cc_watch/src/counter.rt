@@ -1,15 +1,14 @@
 //! The watcher that counts functions, steps and values.
 
 ghost use Rattle.std.specs.Prelude.{◌≡◌, ◌++◌, ◌+◌, ◌%◌, ◌^◌, ◌==◌, OnOk, OnErr, slice_index, if◌then◌else◌};
-ghost use Rattle.g_graph.specs.declared.steps.Rule.{Rule};
+ghost use Rattle.r_rule.specs.declared.steps.Rule.{Rule};
 ghost use Rattle.r_rule.specs.Names.{all_rules, rule_place};
 ghost use Rattle.cc_watch.specs.Texts.{counts_text, functions_text, rule_text, rules_text, steps_of, values_text, Extends};
 
 use crate::text::{push_bytes, push_number};
 use crate::{Row, Watcher};
 use base::NoMemory;
-use g_graph::{Rule, Step};
-use r_rule::{all_rules, rule_name, rule_place};
+use r_rule::{Rule, Step, all_rules, rule_name, rule_place};
 
 /// A watcher that counts: functions, the steps of each rule, and values before and after, each
 /// modulo 2^32. Its name is `count`, and its text is one line.

@@ -10,7 +10,7 @@ mod text;
 mod watcher;
 
 pub use counter::Counter;
-pub use g_graph::StepList;
 pub use log_keeper::LogKeeper;
+pub use r_rule::StepList;
 pub use row::Row;
 pub use watcher::Watcher;

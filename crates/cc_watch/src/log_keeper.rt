@@ -5,7 +5,7 @@ ghost use Rattle.std.specs.Prelude.{◌≡◌, IfOk};
 use crate::text::push_log;
 use crate::{Row, Watcher};
 use base::NoMemory;
-use g_graph::{Step, StepList};
+use r_rule::{Step, StepList};
 use std::alloc::Global;
 use std::marker::Model;
 

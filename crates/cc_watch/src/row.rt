@@ -1,7 +1,7 @@
 //! Rows: what a recipe did to one function.
 
 use base::{Name, NoMemory};
-use g_graph::StepList;
+use r_rule::StepList;
 use std::marker::Model;
 
 /// What a recipe did to a function: its name, how many values its graph has before and after, and

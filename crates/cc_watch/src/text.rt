@@ -6,9 +6,8 @@ ghost use Rattle.cc_watch.specs.Texts.{head_text, number_text, row_text, step_te
 
 use crate::Row;
 use base::NoMemory;
-use g_graph::{Rule, Step};
 use itoa::Buffer;
-use r_rule::rule_name;
+use r_rule::{Rule, Step, rule_name};
 
 /// Appends bytes.
 pub fn push_bytes(out: &mut Vec<u8>, bytes: &[u8]) -> Result<(), NoMemory>

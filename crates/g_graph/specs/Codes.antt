@@ -8,13 +8,11 @@ use Rattle.g_graph.specs.contracts.op.Kind as kind
 use Rattle.g_graph.specs.contracts.op.Op as op
 use Rattle.g_graph.specs.contracts.op.Origin as origin
 use Rattle.g_graph.specs.contracts.link.Link as link
-use Rattle.g_graph.specs.contracts.steps.Step as step
 use Rattle.g_graph.specs.declared.op.Kind.{Kind}
 use Rattle.g_graph.specs.declared.op.Origin.{Origin}
 use Rattle.g_graph.specs.declared.link.Link.{Link}
-use Rattle.g_graph.specs.declared.steps.Step.{Step}
 use Rattle.val_core.specs.declared.leaf.Leaf.{Leaf}
-use Rattle.g_graph.specs.Plain.{RegionTree, region, NodeTree, node, NodeTrees, no_nodes, node_then, RegionTrees, no_regions, region_then, nodes_of, regions_of, node_size, region_size, nodes_size, regions_size, PlainObject, PlainLambda, PlainDelta, PlainOmega, PlainOptimised}
+use Rattle.g_graph.specs.Plain.{RegionTree, region, NodeTree, node, NodeTrees, no_nodes, node_then, RegionTrees, no_regions, region_then, nodes_of, regions_of, node_size, region_size, nodes_size, regions_size, PlainObject, PlainLambda, PlainDelta, PlainOmega}
 
 abbrev head : Gv → Gv
 head gnil = gnil
@@ -97,14 +95,6 @@ abbrev pub coded_omega : Coded PlainOmega
 coded_omega =
     code_by (List PlainLambda × (List PlainDelta × List (List ℕ))) (coded× (coded_list coded_lambda) (coded× (coded_list coded_delta) (coded_list (coded_list coded_ℕ))))
     (λ o. (o.lambdas, (o.deltas, o.names))) (λ p. record { lambdas = p.0; deltas = p.1.0; names = p.1.1 }) (λ _. refl)
-
-abbrev pub coded_steps : Coded (List Step)
-coded_steps = coded_list step.the_row.coded
-
-abbrev pub coded_optimised : Coded PlainOptimised
-coded_optimised =
-    code_by (PlainLambda × (List Step × ℕ)) (coded× coded_lambda (coded× coded_steps coded_ℕ)) (λ o. (o.lambda, (o.steps, o.before)))
-    (λ p. record { lambda = p.0; steps = p.1.0; before = p.1.1 }) (λ _. refl)
 
 pub most_nodes : (ns : List NodeTree) → most (λ k. node_size k + 1) ns ≤ nodes_size (nodes_of ns) + 1
 most_nodes [] = omega arith

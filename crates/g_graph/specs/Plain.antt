@@ -7,7 +7,6 @@ use Rattle.g_graph.specs.declared.op.Kind.{Kind}
 use Rattle.g_graph.specs.declared.op.Op.{Op}
 use Rattle.g_graph.specs.declared.op.Origin.{Origin}
 use Rattle.g_graph.specs.declared.link.Link.{Link}
-use Rattle.g_graph.specs.declared.steps.Step.{Step}
 
 mutual
   pub data RegionTree : Type 0 where
@@ -101,12 +100,6 @@ pub record PlainOmega : Type 0 where
   pub lambdas : List PlainLambda
   pub deltas : List PlainDelta
   pub names : List (List ℕ)
-
--- what a recipe made of a lambda, the steps that led there, and the number of values before them
-pub record PlainOptimised : Type 0 where
-  pub lambda : PlainLambda
-  pub steps : List Step
-  pub before : ℕ
 
 -- the shapes of the blocks of objects
 abbrev pub shapes_of : List PlainObject → List BlockShape

@@ -1,7 +1,6 @@
 //! The graph of a function, whether it is well formed, and its changes.
 //! Promise: each public call does what its contract says of the graph's tree, and takes no memory
 //! where it only reads.
-//! Always: an `Optimised` holds a well-formed lambda.
 #![tactic(auto)]
 
 mod can_change;
@@ -21,13 +20,11 @@ mod numbers;
 mod objects;
 mod omega;
 mod op;
-mod optimised;
 mod redirect;
 mod region;
 mod replace;
 mod splicing;
 mod states;
-mod steps;
 mod unique;
 mod uses;
 
@@ -47,7 +44,6 @@ pub use numbers::{ids, region_ids};
 pub use objects::leaves_fit;
 pub use omega::{Delta, Omega};
 pub use op::{Kind, Op, Origin};
-pub use optimised::{Optimised, StepList};
 pub use redirect::{
     ArgsToInputs, OriginReplaced, OutputsToResults, Redirect, redirect_nodes, redirect_origins,
     redirect_region, same_origin,
@@ -55,5 +51,4 @@ pub use redirect::{
 pub use region::{Node, Region};
 pub use replace::replace_uses;
 pub use splicing::{splice, splice_region};
-pub use steps::{Rule, Step};
 pub use uses::{is_used, nodes_use};

@@ -2,9 +2,9 @@
 use Rattle.std.proofs.Common.{◌≡◌, ◌++◌, ℕ, Bool, true, false, List, [], ◌∷◌, Option, None, Some, option_map, refl, ap, ◌∙◌}
 use Rattle.std.specs.Prelude.{if◌then◌else◌, is_some, unwrap_or}
 use Rattle.std.specs.List.{fold}
-use Rattle.g_graph.specs.declared.steps.Rule.{Rule}
-use Rattle.g_graph.specs.declared.steps.Rule.TheVariants.{Fold, Cne, Dne, Inv, Push, Pull, Invert, Unroll, Inline}
-use Rattle.g_graph.specs.declared.steps.Step.{Step}
+use Rattle.r_rule.specs.declared.steps.Rule.{Rule}
+use Rattle.r_rule.specs.declared.steps.Rule.TheVariants.{Fold, Cne, Dne, Inv, Push, Pull, Invert, Unroll, Inline}
+use Rattle.r_rule.specs.declared.steps.Step.{Step}
 use Rattle.g_graph.specs.Plain.{PlainLambda}
 use Rattle.g_graph.specs.Ids.{region_ids}
 use Rattle.r_inline.specs.Rule.{iln}

@@ -5,9 +5,10 @@ use Rattle.std.proofs.Common.{◌≡◌, ◌<◌, ℕ, zero, suc, List, [], ◌�
 use Rattle.std.proofs.lemmas.Option.{same_Some, slice_get-map}
 use Rattle.board_core.specs.Answers.{all_some, answer}
 use Rattle.board_core.proofs.lemmas.Answers.{all_some-cons}
-use Rattle.g_graph.specs.declared.steps.Rule.{Rule}
+use Rattle.r_rule.specs.declared.steps.Rule.{Rule}
 use Rattle.g_graph.specs.Lists.{IsComplete}
-use Rattle.g_graph.specs.Plain.{PlainLambda, PlainOptimised}
+use Rattle.g_graph.specs.Plain.{PlainLambda}
+use Rattle.r_rule.specs.Optimised.{PlainOptimised}
 use Rattle.g_graph.specs.WellFormed.{IsWellFormed}
 use Rattle.r_edit.specs.Steps.{IsApartFrom}
 use Rattle.g_pass_order.specs.Calls.{no_lambda}

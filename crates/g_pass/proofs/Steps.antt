@@ -1,7 +1,7 @@
 -- Each rule makes a step wherever it applies.
 use Rattle.std.proofs.Common.{◌≡◌, Bool, true, false, if◌then◌else◌, List, Some, None, subst}
 use Rattle.std.proofs.lemmas.Option.{none-some, same_Some}
-use Rattle.g_graph.specs.declared.steps.Rule.TheVariants.{Fold, Cne, Dne, Inv, Push, Pull, Invert, Unroll, Inline}
+use Rattle.r_rule.specs.declared.steps.Rule.TheVariants.{Fold, Cne, Dne, Inv, Push, Pull, Invert, Unroll, Inline}
 use Rattle.g_graph.specs.Plain.{PlainLambda}
 use Rattle.r_edit.specs.Steps.{MayStandFor}
 use Rattle.r_fold.specs.Laws.{FoldIsAStep}

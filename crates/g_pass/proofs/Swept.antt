@@ -1,8 +1,8 @@
 -- Lambdas with their steps.
 use Rattle.std.proofs.Common.{◌≡◌, ◌++◌, ℕ, List, [], ◌∷◌, Some, None, Result, Ok, Err, OnErr, sym, ap}
 use Rattle.g_graph.specs.Plain.{PlainLambda}
-use Rattle.g_graph.specs.declared.steps.Step.{Step}
-use Rattle.g_graph.specs.declared.steps.Rule.{Rule}
+use Rattle.r_rule.specs.declared.steps.Step.{Step}
+use Rattle.r_rule.specs.declared.steps.Rule.{Rule}
 use Rattle.g_pass_def.specs.Sweep.{Swept, stepped, tried}
 use Rattle.g_pass.specs.Sweep.{step, rules}
 

@@ -1,6 +1,6 @@
 -- What the sweeps of a recipe do to a lambda, in numbers.
 use Rattle.std.specs.Prelude.{◌-◌, List, [], ◌∷◌, length}
-use Rattle.g_graph.specs.declared.steps.Rule.{Rule}
+use Rattle.r_rule.specs.declared.steps.Rule.{Rule}
 use Rattle.g_graph.specs.Plain.{PlainLambda}
 use Rattle.g_graph.specs.Count.{saturated}
 use Rattle.g_graph.specs.Ids.{region_ids}

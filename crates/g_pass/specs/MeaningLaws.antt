@@ -2,9 +2,10 @@
 use Rattle.std.specs.Prelude.{◌≡◌, ℕ, ◌+◌, ◌*◌, ◌≤◌, List, Some, slice_get, slice_set}
 use Rattle.std.specs.List.{sum_by, AllByRecursion}
 use Rattle.base.specs.Limits.{most_functions, most_program_values, most_grown_values}
-use Rattle.g_graph.specs.declared.steps.Rule.{Rule}
+use Rattle.r_rule.specs.declared.steps.Rule.{Rule}
 use Rattle.g_graph.specs.Lists.{IsComplete}
-use Rattle.g_graph.specs.Plain.{PlainLambda, PlainOmega, PlainOptimised}
+use Rattle.g_graph.specs.Plain.{PlainLambda, PlainOmega}
+use Rattle.r_rule.specs.Optimised.{PlainOptimised}
 use Rattle.g_graph.specs.Program.{lambda_values, IsProgram, IsWithinLimits}
 use Rattle.g_graph.specs.WellFormed.{IsWellFormed}
 use Rattle.g_mean.specs.Replacement.{FunctionsKeepMeaning, ProgramKeepsMeaning}

@@ -1,6 +1,6 @@
 -- The text of a recipe: the names of its rules, one for each sweep, joined by commas; `none` where it has no sweep.
 use Rattle.std.specs.Prelude.{◌≡◌, ℕ, ◌++◌, List, [], ◌∷◌, codes}
-use Rattle.g_graph.specs.declared.steps.Rule.{Rule}
+use Rattle.r_rule.specs.declared.steps.Rule.{Rule}
 use Rattle.r_rule.specs.Names.{rule_name}
 
 abbrev pub later_text : List Rule → List ℕ

@@ -1,7 +1,7 @@
 -- The rules: where each applies, what it makes of a lambda there, and in which direction it is swept.
 use Rattle.std.specs.Prelude.{ℕ, Bool, true, false, List, Option, None, Some, option_map, if◌then◌else◌}
-use Rattle.g_graph.specs.declared.steps.Rule.{Rule}
-use Rattle.g_graph.specs.declared.steps.Rule.TheVariants.{Fold, Cne, Dne, Inv, Push, Pull, Invert, Unroll, Inline}
+use Rattle.r_rule.specs.declared.steps.Rule.{Rule}
+use Rattle.r_rule.specs.declared.steps.Rule.TheVariants.{Fold, Cne, Dne, Inv, Push, Pull, Invert, Unroll, Inline}
 use Rattle.g_graph.specs.Plain.{PlainLambda}
 use Rattle.g_pass_def.specs.Sweep.{RuleTable}
 use Rattle.r_fold.specs.Rule as fold_rule

@@ -7,7 +7,8 @@ ghost use Rattle.g_pass_def.specs.Answers.{lambdas_of};
 ghost use Rattle.r_inline.specs.Rule as inline_rule;
 ghost use Rattle.r_inline.specs.Callees.{numbered, inlined_at};
 
-use g_graph::{Lambda, Optimised};
+use g_graph::Lambda;
+use r_rule::Optimised;
 use std::sync::Arc;
 
 /// What the function that the node of this number calls was made into, where inlining applies

@@ -7,7 +7,7 @@ ghost use Rattle.std.specs.Arc.{arc_value};
 ghost use Rattle.g_graph.specs.Ids.{region_ids};
 ghost use Rattle.g_graph.specs.Plain.{PlainLambda};
 ghost use Rattle.g_graph.specs.WellFormed.{IsWellFormed};
-ghost use Rattle.g_graph.specs.declared.steps.Step.{Step};
+ghost use Rattle.r_rule.specs.declared.steps.Step.{Step};
 ghost use Rattle.g_arena_def.specs.Flat.{StandsFor};
 ghost use Rattle.g_pass_def.specs.Answers.{lambdas_of};
 ghost use Rattle.g_pass_def.specs.Sweep.{in_order, sweep};
@@ -17,7 +17,8 @@ ghost use Rattle.g_pass.specs.Sweep.{rules};
 
 use base::{NoMemory, Steps};
 use g_arena::Arena;
-use g_graph::{Lambda, Optimised, Rule, Step};
+use g_graph::Lambda;
+use r_rule::{Optimised, Rule, Step};
 use std::alloc::Global;
 use std::marker::Brand;
 use std::sync::Arc;

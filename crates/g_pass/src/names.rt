@@ -1,11 +1,10 @@
 //! The names of rules at the beginning of a text.
 
 ghost use Rattle.std.specs.Prelude.{◌≡◌, ◌≢◌, ◌++◌, ℕ, List, IfSome, IfNone};
-ghost use Rattle.g_graph.specs.declared.steps.Rule.{Rule};
+ghost use Rattle.r_rule.specs.declared.steps.Rule.{Rule};
 ghost use Rattle.r_rule.specs.Names.{rule_name};
 
-use g_graph::Rule;
-use r_rule::{all_rules, rule_name};
+use r_rule::{Rule, all_rules, rule_name};
 
 /// What follows a beginning of a text; none where the text does not begin so.
 pub fn after<'a>(text: &'a [u8], beginning: &[u8]) -> Option<&'a [u8]>

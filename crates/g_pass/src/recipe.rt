@@ -2,12 +2,12 @@
 
 ghost use Rattle.std.specs.Prelude.{◌≡◌, ◌≢◌, ◌≤◌, ◌<◌, ◌++◌, ◌∷◌, [], List, IfSome, IfNone, length};
 ghost use Rattle.base.specs.Limits.{most_sweeps};
-ghost use Rattle.g_graph.specs.declared.steps.Rule.{Rule};
+ghost use Rattle.r_rule.specs.declared.steps.Rule.{Rule};
 ghost use Rattle.g_pass.specs.Recipe.{recipe_text};
 
 use crate::names::{after, first_rule};
 use base::MOST_SWEEPS;
-use g_graph::Rule;
+use r_rule::Rule;
 use std::marker::Model;
 
 /// A recipe: the rules of its sweeps, in order, at most `MOST_SWEEPS`. Contracts see the list. It
@@ -21,7 +21,7 @@ pub struct Recipe {
 impl Model for Recipe {
     ghost use Rattle.std.specs.Prelude.{List, take, ◌≤◌};
     ghost use Rattle.base.specs.Limits.{most_sweeps};
-    ghost use Rattle.g_graph.specs.declared.steps.Rule.{Rule};
+    ghost use Rattle.r_rule.specs.declared.steps.Rule.{Rule};
 
     ghost Value = { List Rule };
 

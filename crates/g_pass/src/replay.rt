@@ -9,7 +9,8 @@ ghost use Rattle.g_pass.specs.Sweep.{rules};
 
 use crate::step;
 use base::NoMemory;
-use g_graph::{Lambda, Optimised, Step, copy_of};
+use g_graph::{Lambda, copy_of};
+use r_rule::{Optimised, Step};
 use std::alloc::Global;
 use std::sync::Arc;
 

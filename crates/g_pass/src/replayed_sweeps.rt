@@ -10,7 +10,8 @@ ghost use Rattle.g_pass.specs.Counts.{count_of, counts_of};
 
 use crate::{Recipe, sweep};
 use base::NoMemory;
-use g_graph::{Lambda, Optimised, Rule, Step, ids, values};
+use g_graph::{Lambda, ids, values};
+use r_rule::{Optimised, Rule, Step};
 use std::alloc::Global;
 use std::sync::Arc;
 

@@ -4,14 +4,15 @@ ghost use Rattle.std.specs.Prelude.{◌≡◌, if◌then◌else◌, false, map, 
 ghost use Rattle.std.specs.Arc.{arc_value};
 ghost use Rattle.std.specs.declared.option.Option.TheVariants.{Some, None};
 ghost use Rattle.g_graph.specs.WellFormed.{IsWellFormed};
-ghost use Rattle.g_graph.specs.declared.steps.Rule.TheVariants.{Inline};
+ghost use Rattle.r_rule.specs.declared.steps.Rule.TheVariants.{Inline};
 ghost use Rattle.g_pass_def.specs.Answers.{lambdas_of};
 ghost use Rattle.g_pass_def.specs.Sweep.{tried};
 ghost use Rattle.g_pass.specs.Sweep.{applies, applied, is_backward, rules};
 
 use crate::callee::inlined_at;
 use base::NoMemory;
-use g_graph::{Lambda, Optimised, Rule, Step};
+use g_graph::Lambda;
+use r_rule::{Optimised, Rule, Step};
 use std::alloc::Global;
 use std::sync::Arc;
 

@@ -8,7 +8,8 @@ ghost use Rattle.g_pass.specs.Placed.{change_in, is_loop, loop_at, IsPlaced};
 ghost use Rattle.g_pass.specs.Sweep.{rules};
 
 use base::NoMemory;
-use g_graph::{Lambda, Node, Op, Region, Rule, node_at};
+use g_graph::{Lambda, Node, Op, Region, node_at};
+use r_rule::Rule;
 use std::alloc::Global;
 
 // A region of a node: where the region that holds the node is listed, the node's index there, and

@@ -15,7 +15,8 @@ use crate::fast::{arena_rules, swept_fast, swept_together};
 use crate::rule_step::{is_backward, try_step};
 use crate::sites::{Site, Sites, may_apply};
 use base::NoMemory;
-use g_graph::{Lambda, Optimised, Rule, Step, StepList, copy_of, ids, values};
+use g_graph::{Lambda, copy_of, ids, values};
+use r_rule::{Optimised, Rule, Step, StepList};
 use std::alloc::Global;
 use std::sync::Arc;
 

@@ -6,9 +6,10 @@ use Rattle.std.proofs.Common.{map, Option, Some, slice_get, slice_index_or, get_
 use Rattle.std.proofs.lemmas.Option.{same_Some, slice_get-get_or}
 use Rattle.board_core.specs.Answers.{all_some, answer}
 use Rattle.board_core.proofs.lemmas.Answers.{all_some-cons}
-use Rattle.g_graph.specs.declared.steps.Rule.{Rule}
-use Rattle.g_graph.specs.declared.steps.Step.{Step}
-use Rattle.g_graph.specs.Plain.{PlainLambda, PlainOptimised}
+use Rattle.r_rule.specs.declared.steps.Rule.{Rule}
+use Rattle.r_rule.specs.declared.steps.Step.{Step}
+use Rattle.g_graph.specs.Plain.{PlainLambda}
+use Rattle.r_rule.specs.Optimised.{PlainOptimised}
 use Rattle.g_pass_order.specs.Calls.{no_lambda}
 use Rattle.g_pass_order.specs.Laws.{OrdersAreRanked}
 use Rattle.g_pass_def.specs.Sweep.{RuleTable, optimise, replayed}

@@ -3,8 +3,8 @@ use Rattle.std.proofs.Common.{◌≡◌, ℕ, List, [], ◌∷◌, ◌++◌, Opt
 use Rattle.std.specs.Prelude.{option_and_then}
 use Rattle.std.specs.List.{fold}
 use Rattle.std.proofs.lemmas.Option.{same_Some}
-use Rattle.g_graph.specs.declared.steps.Rule.{Rule}
-use Rattle.g_graph.specs.declared.steps.Step.{Step}
+use Rattle.r_rule.specs.declared.steps.Rule.{Rule}
+use Rattle.r_rule.specs.declared.steps.Step.{Step}
 use Rattle.g_graph.specs.Plain.{PlainLambda}
 use Rattle.g_graph.specs.WellFormed.{IsWellFormed}
 use Rattle.g_graph.specs.Ids.{region_ids}

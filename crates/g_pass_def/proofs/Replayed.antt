@@ -7,7 +7,7 @@ use Rattle.std.specs.List.{AllByRecursion}
 use Rattle.std.proofs.lemmas.Bool.{cases_eq}
 use Rattle.std.proofs.lemmas.List.{ext_get_or}
 use Rattle.std.proofs.lemmas.Option.{slice_get-get_or, unwrap_or-slice_get}
-use Rattle.g_graph.specs.declared.steps.Step.{Step}
+use Rattle.r_rule.specs.declared.steps.Step.{Step}
 use Rattle.g_graph.specs.Plain.{PlainLambda}
 use Rattle.g_graph.specs.Lists.{IsComplete}
 use Rattle.g_graph.specs.WellFormed.{IsWellFormed}

@@ -2,8 +2,9 @@
 use Rattle.std.specs.Prelude.{◌≡◌, ℕ, ◌<◌, List, map, length, unwrap_or, slice_get}
 use Rattle.board_core.specs.Board.{Program}
 use Rattle.board_core.specs.Answers.{answer}
-use Rattle.g_graph.specs.declared.steps.Rule.{Rule}
-use Rattle.g_graph.specs.Plain.{PlainLambda, PlainOptimised}
+use Rattle.r_rule.specs.declared.steps.Rule.{Rule}
+use Rattle.g_graph.specs.Plain.{PlainLambda}
+use Rattle.r_rule.specs.Optimised.{PlainOptimised}
 use Rattle.g_pass_order.specs.Calls.{no_lambda, IsOrder}
 use Rattle.g_pass_def.specs.Sweep.{RuleTable, optimise}
 

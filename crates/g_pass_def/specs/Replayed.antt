@@ -1,6 +1,6 @@
 -- What steps make of a list of lambdas, a list of steps for each of them, whoever wrote the steps.
 use Rattle.std.specs.Prelude.{◌≡◌, ℕ, ◌<◌, List, [], map, length, slice_get, slice_index_or}
-use Rattle.g_graph.specs.declared.steps.Step.{Step}
+use Rattle.r_rule.specs.declared.steps.Step.{Step}
 use Rattle.g_graph.specs.Plain.{PlainLambda}
 use Rattle.g_pass_order.specs.Calls.{IsOrder}
 use Rattle.g_pass_def.specs.Sweep.{RuleTable, replayed}

@@ -1,9 +1,10 @@
 -- What a sweep of a rule makes of a lambda, and what a recipe makes of it, sweep by sweep, over any table of rules.
 use Rattle.std.specs.Prelude.{ℕ, ◌++◌, List, [], ◌∷◌, Bool, Option, None, Some, option_and_then, reverse, if◌then◌else◌}
 use Rattle.std.specs.List.{fold}
-use Rattle.g_graph.specs.declared.steps.Rule.{Rule}
-use Rattle.g_graph.specs.declared.steps.Step.{Step}
-use Rattle.g_graph.specs.Plain.{PlainLambda, PlainOptimised}
+use Rattle.r_rule.specs.declared.steps.Rule.{Rule}
+use Rattle.r_rule.specs.declared.steps.Step.{Step}
+use Rattle.g_graph.specs.Plain.{PlainLambda}
+use Rattle.r_rule.specs.Optimised.{PlainOptimised}
 use Rattle.g_graph.specs.Ids.{region_ids}
 use Rattle.g_graph.specs.Program.{lambda_values}
 

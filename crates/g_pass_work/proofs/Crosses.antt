@@ -10,10 +10,10 @@ use Rattle.g_graph.proofs.lambda.Object.TheSendSync as object
 use Rattle.g_graph.proofs.op.Kind.TheSendSync as kind
 use Rattle.g_graph.proofs.op.Op.TheSendSync as op
 use Rattle.g_graph.proofs.op.Origin.TheSendSync as origin
-use Rattle.g_graph.proofs.optimised.StepList.TheSendSync as steps
+use Rattle.r_rule.proofs.optimised.StepList.TheSendSync as steps
 use Rattle.g_graph.proofs.region.Node.TheLaws.TheKnot as knot
 use Rattle.g_graph.specs.contracts.lambda.Lambda as lambda
-use Rattle.g_graph.specs.contracts.optimised.Optimised as optimised
+use Rattle.r_rule.specs.contracts.optimised.Optimised as optimised
 use Rattle.g_graph.specs.contracts.region.Region as region
 
 region-send : IsSend region.the_row

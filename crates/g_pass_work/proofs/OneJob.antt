@@ -1,8 +1,9 @@
 -- One job of the stale functions.
 use Rattle.std.proofs.Common.{◌≡◌, ◌<◌, [], ℕ, Bool, List, length, slice_index, slice_index_or, Contains, ap, subst, ◌∙◌, arith}
 use Rattle.std.specs.List.{range_with_len}
-use Rattle.g_graph.specs.declared.steps.Rule.{Rule}
-use Rattle.g_graph.specs.Plain.{PlainLambda, PlainOptimised}
+use Rattle.r_rule.specs.declared.steps.Rule.{Rule}
+use Rattle.g_graph.specs.Plain.{PlainLambda}
+use Rattle.r_rule.specs.Optimised.{PlainOptimised}
 use Rattle.g_pass_def.specs.Sweep.{RuleTable, optimise}
 use Rattle.g_pass_def.specs.Answers.{lambda_of, lambdas_of}
 use Rattle.g_pass_work.specs.Renewal.{is_stale, functions_of, merged}

@@ -5,8 +5,9 @@ use Rattle.std.proofs.lemmas.Option.{slice_get_within, slice_get-get_or, unwrap_
 use Rattle.call_order.specs.Units.{Reaches}
 use Rattle.board_core.specs.Answers.{all_some, answer}
 use Rattle.board_core.proofs.lemmas.Answers.{same-results, answers-come-of-deps}
-use Rattle.g_graph.specs.declared.steps.Rule.{Rule}
-use Rattle.g_graph.specs.Plain.{PlainLambda, PlainOptimised}
+use Rattle.r_rule.specs.declared.steps.Rule.{Rule}
+use Rattle.g_graph.specs.Plain.{PlainLambda}
+use Rattle.r_rule.specs.Optimised.{PlainOptimised}
 use Rattle.g_pass_order.specs.Calls.{no_lambda}
 use Rattle.g_pass_order.specs.Laws.{OrdersAreRanked}
 use Rattle.g_pass_def.specs.Sweep.{RuleTable, optimise}

@@ -5,8 +5,9 @@ use Rattle.std.specs.List.{range_with_len}
 use Rattle.board_core.specs.Board.{Program, deps_of}
 use Rattle.board_core.specs.Answers.{IsRanked, answer}
 use Rattle.board_core.specs.Alone.{AreResults}
-use Rattle.g_graph.specs.declared.steps.Rule.{Rule}
-use Rattle.g_graph.specs.Plain.{PlainLambda, PlainOptimised}
+use Rattle.r_rule.specs.declared.steps.Rule.{Rule}
+use Rattle.g_graph.specs.Plain.{PlainLambda}
+use Rattle.r_rule.specs.Optimised.{PlainOptimised}
 use Rattle.g_pass_order.specs.Calls.{IsOrder}
 use Rattle.g_pass_order.specs.Laws.{OrdersAreRanked, OrdersAreUnique}
 use Rattle.g_pass_def.specs.Sweep.{RuleTable}

@@ -1,7 +1,8 @@
 -- The answers that are kept of an earlier list.
 use Rattle.std.specs.Prelude.{ℕ, Bool, List}
-use Rattle.g_graph.specs.declared.steps.Rule.{Rule}
-use Rattle.g_graph.specs.Plain.{PlainLambda, PlainOptimised}
+use Rattle.r_rule.specs.declared.steps.Rule.{Rule}
+use Rattle.g_graph.specs.Plain.{PlainLambda}
+use Rattle.r_rule.specs.Optimised.{PlainOptimised}
 use Rattle.g_pass_def.specs.Sweep.{RuleTable}
 use Rattle.g_pass_def.specs.Answers.{AreAnswers}
 use Rattle.g_pass_work.specs.Stale.{AreStale}

@@ -1,7 +1,8 @@
 -- Laws of stale functions.
 use Rattle.std.specs.Prelude.{◌≡◌, ℕ, ◌↔◌, List, [], slice_get, slice_index_or, Contains}
-use Rattle.g_graph.specs.declared.steps.Rule.{Rule}
-use Rattle.g_graph.specs.Plain.{PlainLambda, PlainOptimised}
+use Rattle.r_rule.specs.declared.steps.Rule.{Rule}
+use Rattle.g_graph.specs.Plain.{PlainLambda}
+use Rattle.r_rule.specs.Optimised.{PlainOptimised}
 use Rattle.g_pass_def.specs.Sweep.{RuleTable}
 use Rattle.g_pass_def.specs.Answers.{AreAnswers}
 use Rattle.g_pass_work.specs.Stale.{IsUnchanged, IsUnstale}

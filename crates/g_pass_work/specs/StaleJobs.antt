@@ -1,10 +1,12 @@
 -- The stale functions of a list of lambdas as jobs of a board.
 use Rattle.std.specs.Prelude.{◌≡◌, ◌<◌, ◌^◌, ℕ, Bool, List, [], length, Some, slice_get, slice_index, slice_index_or, refl}
 use Rattle.std.specs.Coded.{Coded, code_by, coded×, coded_bool, coded_list, coded_ℕ}
-use Rattle.g_graph.specs.declared.steps.Rule.{Rule}
-use Rattle.g_graph.specs.contracts.steps.Rule as rule
-use Rattle.g_graph.specs.Plain.{PlainLambda, PlainOptimised}
-use Rattle.g_graph.specs.Codes.{coded_lambda, coded_optimised}
+use Rattle.r_rule.specs.declared.steps.Rule.{Rule}
+use Rattle.r_rule.specs.contracts.steps.Rule as rule
+use Rattle.g_graph.specs.Plain.{PlainLambda}
+use Rattle.r_rule.specs.Optimised.{PlainOptimised}
+use Rattle.g_graph.specs.Codes.{coded_lambda}
+use Rattle.r_rule.specs.Optimised.{coded_optimised}
 use Rattle.g_graph.specs.Program.{lambda_values}
 use Rattle.g_graph.specs.WellFormed.{IsWellFormed}
 use Rattle.g_pass_def.specs.Sweep.{RuleTable}

@@ -7,8 +7,9 @@ ghost use Rattle.g_graph.specs.WellFormed.{IsWellFormed};
 
 use base::NoMemory;
 use board_core::Work;
-use g_graph::{Lambda, Optimised, copy_of};
+use g_graph::{Lambda, copy_of};
 use g_pass::{Recipe, optimise};
+use r_rule::Optimised;
 use std::alloc::Global;
 use std::marker::Model;
 use std::sync::Arc;

@@ -4,10 +4,10 @@
 
 use crate::row::Row;
 use base::NoMemory;
-use g_graph::{Lambda, Optimised, Rule, Step, StepList, check, copy_of, values};
+use g_graph::{Lambda, check, copy_of, values};
 use g_pass::{Recipe, optimise, sweep};
 use g_text::Named;
-use r_rule::{all_rules, rule_name};
+use r_rule::{Optimised, Rule, Step, StepList, all_rules, rule_name};
 use std::alloc::Global;
 use std::sync::Arc;
 

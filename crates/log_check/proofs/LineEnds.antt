@@ -2,7 +2,7 @@
 use Rattle.std.specs.Prelude.{codes, decimal}
 use Rattle.std.proofs.Common.{◌≡◌, ◌≢◌, ℕ, List, [], ◌∷◌, ◌++◌, refl, sym, ap, subst, ◌∙◌, append_assoc, arith}
 use Rattle.r_rule.specs.Names.{rule_name}
-use Rattle.g_graph.specs.declared.steps.Step.{Step}
+use Rattle.r_rule.specs.declared.steps.Step.{Step}
 use Rattle.cc_watch.specs.Rows.{PlainRow}
 use Rattle.cc_watch.specs.Texts.{head_text, step_text}
 use Rattle.log_check.specs.Log.{IsHead, IsStep}

@@ -9,8 +9,8 @@ use Rattle.base.specs.Limits.{most_name_bytes}
 use Rattle.c_lex.specs.Classes.{is_letter, is_name_byte}
 use Rattle.c_lex.specs.Grammar.{IsIdentifier}
 use Rattle.r_rule.specs.Names.{rule_name}
-use Rattle.g_graph.specs.declared.steps.Rule.{Rule}
-use Rattle.g_graph.specs.declared.steps.Step.{Step}
+use Rattle.r_rule.specs.declared.steps.Rule.{Rule}
+use Rattle.r_rule.specs.declared.steps.Step.{Step}
 use Rattle.cc_watch.specs.Rows.{PlainRow}
 use Rattle.cc_watch.specs.Texts.{head_text, step_text, row_text, log_text}
 use Rattle.log_check.specs.Log.{line_count, IsHead, IsRow, IsStep, LogOrBreak}

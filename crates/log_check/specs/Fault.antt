@@ -1,6 +1,6 @@
 -- Where what a log says of functions is wrong for the first time.
 use Rattle.std.specs.Prelude.{◌≡◌, ◌≢◌, ℕ, suc, ◌+◌, ◌<◌, ◌⊎◌, List, [], length, take, None, Some, slice_get, slice_index, slice_index_or}
-use Rattle.g_graph.specs.declared.steps.Step.{Step}
+use Rattle.r_rule.specs.declared.steps.Step.{Step}
 use Rattle.g_graph.specs.Plain.{PlainLambda}
 use Rattle.g_graph.specs.Program.{lambda_values}
 use Rattle.g_pass_order.specs.Calls.{IsOrder}

@@ -5,8 +5,8 @@ use Rattle.std.specs.List.{AllByRecursion}
 use Rattle.std.specs.Coded.{Coded, code_by, coded×, coded_ℕ, coded_list}
 use Rattle.base.specs.Limits.{most_name_bytes}
 use Rattle.c_lex.specs.Grammar.{IsIdentifier}
-use Rattle.g_graph.specs.declared.steps.Step.{Step}
-use Rattle.g_graph.specs.Codes.{coded_steps}
+use Rattle.r_rule.specs.declared.steps.Step.{Step}
+use Rattle.r_rule.specs.Optimised.{coded_steps}
 use Rattle.cc_watch.specs.Rows.{PlainRow}
 use Rattle.cc_watch.specs.Texts.{head_text, step_text, log_text}
 

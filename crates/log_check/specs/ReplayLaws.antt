@@ -1,6 +1,6 @@
 -- Laws of logs whose steps are replayed.
 use Rattle.std.specs.Prelude.{◌≡◌, ◌≢◌, ◌⊎◌, List, [], Some}
-use Rattle.g_graph.specs.declared.steps.Rule.{Rule}
+use Rattle.r_rule.specs.declared.steps.Rule.{Rule}
 use Rattle.g_graph.specs.Plain.{PlainLambda}
 use Rattle.g_pass_def.specs.Sweep.{Swept, sweep, replayed}
 use Rattle.g_pass.specs.Sweep.{rules}

@@ -8,7 +8,8 @@ ghost use Rattle.g_pass_def.specs.Answers.{lambdas_of};
 ghost use Rattle.g_pass_def.specs.Replayed.{lambdas_at};
 
 use base::NoMemory;
-use g_graph::{Lambda, Optimised, StepList, copy_of};
+use g_graph::{Lambda, copy_of};
+use r_rule::{Optimised, StepList};
 use std::alloc::Global;
 use std::sync::Arc;
 

@@ -12,7 +12,8 @@ ghost use Rattle.log_check.specs.Fault.{IsFunctionFault};
 use crate::LogPart;
 use crate::replay_fault::ReplayFault;
 use crate::replayed::replayed;
-use g_graph::{Lambda, Optimised, values};
+use g_graph::{Lambda, values};
+use r_rule::Optimised;
 use std::alloc::Global;
 use std::sync::Arc;
 

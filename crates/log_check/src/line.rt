@@ -1,7 +1,7 @@
 //! The line that a text begins with.
 
 ghost use Rattle.std.specs.Prelude.{◌≡◌, ◌≢◌, ◌++◌, ℕ, List, IfSome, IfNone};
-ghost use Rattle.g_graph.specs.declared.steps.Step.{Step};
+ghost use Rattle.r_rule.specs.declared.steps.Step.{Step};
 ghost use Rattle.cc_watch.specs.Rows.{PlainRow};
 ghost use Rattle.cc_watch.specs.Texts.{head_text, step_text};
 ghost use Rattle.log_check.specs.Log.{IsHead, IsStep};
@@ -9,7 +9,7 @@ ghost use Rattle.log_check.specs.Lines.{head_row};
 
 use crate::pieces::split_at_first;
 use crate::row::{Head, read_head, read_step};
-use g_graph::Step;
+use r_rule::Step;
 
 /// The function line that the text begins with, and what follows it.
 #[tactic(auto, using(crate::proofs::LineEnds::begins_with_head, crate::proofs::LineEnds::no_head_end, crate::proofs::LineEnds::no_head_line))]

@@ -1,7 +1,7 @@
 //! Logs, and what each says of a function.
 
 use base::{Name, NoMemory};
-use g_graph::Step;
+use r_rule::Step;
 use std::alloc::Global;
 use std::marker::Model;
 

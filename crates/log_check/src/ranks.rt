@@ -14,9 +14,10 @@ use crate::callees::{as_built, callees_of, without_steps};
 use crate::function::replay_function;
 use crate::replay_fault::ReplayFault;
 use crate::{Log, LogPart};
-use g_graph::{Lambda, Optimised};
+use g_graph::Lambda;
 use g_pass_order::laws::{complete_lists_know_calls, orders_are_unique};
 use g_pass_order::{Order, above_all, order};
+use r_rule::Optimised;
 use std::alloc::Global;
 use std::sync::Arc;
 

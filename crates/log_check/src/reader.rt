@@ -2,7 +2,7 @@
 
 ghost use Rattle.std.specs.Prelude.{◌≡◌, ◌≢◌, ◌≤◌, ◌++◌, ℕ, List, length, flat_map, IfOk, IfErr};
 ghost use Rattle.std.specs.List.{AllByRecursion};
-ghost use Rattle.g_graph.specs.declared.steps.Step.{Step};
+ghost use Rattle.r_rule.specs.declared.steps.Step.{Step};
 ghost use Rattle.cc_watch.specs.Texts.{row_text, step_text};
 ghost use Rattle.log_check.specs.Log.{most_log_bytes, parts_of, row_of_part, rows_of, IsLogOf, IsRow, IsStep};
 ghost use Rattle.log_check.specs.Reading.{IsReadFault, PartFails};
@@ -12,7 +12,7 @@ use crate::line::{first_head, first_step};
 use crate::log::{Log, LogPart};
 use crate::row::Head;
 use base::{Name, NoMemory};
-use g_graph::Step;
+use r_rule::Step;
 use std::alloc::Global;
 
 /// How many bytes a log has at most.

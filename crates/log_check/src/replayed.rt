@@ -10,7 +10,8 @@ ghost use Rattle.log_check.specs.Fault.{StepsFail};
 
 use crate::replay_fault::ReplayFault;
 use crate::series::made_series;
-use g_graph::{Lambda, Optimised, Step, copy_of};
+use g_graph::{Lambda, copy_of};
+use r_rule::{Optimised, Step};
 use std::alloc::Global;
 use std::sync::Arc;
 

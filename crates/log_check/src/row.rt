@@ -6,8 +6,8 @@ ghost use Rattle.base.specs.Limits.{most_name_bytes};
 ghost use Rattle.c_lex.specs.Classes as class;
 ghost use Rattle.c_lex.specs.Grammar.{IsIdentifier};
 ghost use Rattle.r_rule.specs.Names.{rule_name};
-ghost use Rattle.g_graph.specs.declared.steps.Rule.{Rule};
-ghost use Rattle.g_graph.specs.declared.steps.Step.{Step};
+ghost use Rattle.r_rule.specs.declared.steps.Rule.{Rule};
+ghost use Rattle.r_rule.specs.declared.steps.Step.{Step};
 ghost use Rattle.cc_watch.specs.Rows.{PlainRow};
 ghost use Rattle.log_check.specs.Log.{IsHead, IsStep};
 ghost use Rattle.log_check.specs.Lines.{head_line, head_row, step_line};
@@ -16,8 +16,7 @@ ghost use Rattle.log_check.specs.Pieces.{named_text, pair_text};
 use crate::number::number;
 use crate::pieces::split_at_first;
 use base::MOST_NAME_BYTES;
-use g_graph::{Rule, Step};
-use r_rule::{all_rules, rule_name};
+use r_rule::{Rule, Step, all_rules, rule_name};
 
 /// What a function line says.
 #[derive(Clone, Copy)]

@@ -11,8 +11,9 @@ ghost use Rattle.log_check.specs.Fault.{StepsFail};
 use crate::replay_fault::ReplayFault;
 use crate::replay_laws::sweeps_replay;
 use base::NoMemory;
-use g_graph::{Lambda, Optimised, Rule, Step, copy_of};
+use g_graph::{Lambda, copy_of};
 use g_pass::{step, sweep};
+use r_rule::{Optimised, Rule, Step};
 use std::alloc::Global;
 use std::sync::Arc;
 

@@ -1,8 +1,8 @@
 -- The laws of the rule on lists of nodes.
 use Rattle.std.specs.Prelude.{◌≡◌, ℕ, if◌then◌else◌, List, option_map}
 use Rattle.std.specs.declared.option.Option.TheVariants.{Some, None}
-use Rattle.g_graph.specs.declared.steps.Rule.TheVariants.{Cne}
-use Rattle.g_graph.specs.declared.steps.Step.{Step}
+use Rattle.r_rule.specs.declared.steps.Rule.TheVariants.{Cne}
+use Rattle.r_rule.specs.declared.steps.Step.{Step}
 use Rattle.g_graph.specs.Plain.{PlainLambda}
 use Rattle.g_graph.specs.WellFormed.{IsWellFormed}
 use Rattle.g_arena_def.specs.Flat.{flat_of}

@@ -6,7 +6,7 @@ use Rattle.std.proofs.lemmas.List.{length-map}
 use Rattle.std.proofs.lemmas.Option.{same_Some}
 use Rattle.g_graph.specs.declared.op.Kind.{Kind}
 use Rattle.g_graph.specs.declared.op.Op.TheVariants.{Gamma}
-use Rattle.g_graph.specs.declared.steps.Step.{Step}
+use Rattle.r_rule.specs.declared.steps.Step.{Step}
 use Rattle.r_edit.specs.InPlace.{all_stay}
 use Rattle.g_arena_def.specs.Flat.{FlatRegion, FlatNode, Flat, place_in}
 use Rattle.g_arena_def.specs.Reads.{found}

@@ -44,7 +44,8 @@ ghost use Rattle.r_dne.specs.Shape.{HasEntries, IsShape};
 use crate::judging::{Shape, stays};
 use base::{NoMemory, Steps};
 use g_arena::Arena;
-use g_graph::{Origin, Rule, Step};
+use g_graph::Origin;
+use r_rule::{Rule, Step};
 use r_sweep::{place_in, remove_exit};
 use std::sync::ledger::Ledger;
 

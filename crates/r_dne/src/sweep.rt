@@ -20,7 +20,8 @@ use crate::judging::{Shape, is_dead};
 use crate::theta_sweep::shrink_theta;
 use base::{NoMemory, Steps};
 use g_arena::Arena;
-use g_graph::{Op, Rule, Step};
+use g_graph::Op;
+use r_rule::{Rule, Step};
 use std::alloc::Global;
 use std::sync::ledger::Ledger;
 

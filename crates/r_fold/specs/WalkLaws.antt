@@ -1,5 +1,5 @@
 -- The law of the rule in a walk.
-use Rattle.g_graph.specs.declared.steps.Rule.TheVariants.{Fold}
+use Rattle.r_rule.specs.declared.steps.Rule.TheVariants.{Fold}
 use Rattle.r_fold.specs.Rule.{applies, fold}
 use Rattle.r_sweep_def.specs.Swept.{Change}
 use Rattle.r_walk.specs.Laws.{IsLocal}

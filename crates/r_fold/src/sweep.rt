@@ -1,7 +1,7 @@
 //! The sweep.
 
 ghost use Rattle.std.specs.Prelude.{◌≡◌, true, IfOk, OnErr};
-ghost use Rattle.g_graph.specs.declared.steps.Rule.TheVariants.{Fold};
+ghost use Rattle.r_rule.specs.declared.steps.Rule.TheVariants.{Fold};
 ghost use Rattle.g_graph.specs.Ids.{region_ids};
 ghost use Rattle.g_graph.specs.WellFormed.{IsWellFormed};
 ghost use Rattle.r_sweep_def.specs.Swept.{swept_by};
@@ -13,7 +13,8 @@ use crate::said::{of_choice, of_loop, of_plan};
 use crate::walk_laws::fold_is_local;
 use crate::walk_plan::plain_plan;
 use base::NoMemory;
-use g_graph::{Lambda, Op, Origin, Region, Rule, Step};
+use g_graph::{Lambda, Op, Origin, Region};
+use r_rule::{Rule, Step};
 use r_walk::laws::walks_are_sweeps;
 use r_walk::{Said, Uses, WalkRule, Words, walk};
 use std::alloc::Global;

@@ -2,7 +2,7 @@
 use Rattle.std.proofs.Common.{◌≡◌, ℕ, Bool, true, false, cond, List, [], ◌∷◌, ◌++◌, Option, None, Some, option_map, refl, ap, ◌∙◌}
 use Rattle.std.specs.Prelude.{option_and_then, ◌&&◌}
 use Rattle.std.specs.List.{AllByRecursion}
-use Rattle.g_graph.specs.declared.steps.Rule.TheVariants.{Inline}
+use Rattle.r_rule.specs.declared.steps.Rule.TheVariants.{Inline}
 use Rattle.g_graph.specs.Ids.{region_ids}
 use Rattle.g_graph.specs.declared.op.Op.{Op}
 use Rattle.g_graph.specs.declared.op.Origin.{Origin}

@@ -3,7 +3,8 @@ use Rattle.std.specs.Prelude.{ℕ, List, map, option_map, option_and_then, slice
 use Rattle.std.specs.declared.option.Option.{Option}
 use Rattle.g_graph.specs.declared.op.Op.{Op}
 use Rattle.g_graph.specs.declared.op.Origin.{Origin}
-use Rattle.g_graph.specs.Plain.{NodeTree, op_of, inputs_in, nodes_in, results_of, PlainLambda, PlainOptimised}
+use Rattle.g_graph.specs.Plain.{NodeTree, op_of, inputs_in, nodes_in, results_of, PlainLambda}
+use Rattle.r_rule.specs.Optimised.{PlainOptimised}
 use Rattle.r_edit.specs.Numbering.{node_count}
 use Rattle.r_inline.specs.Called.{called_by}
 use Rattle.r_inline.specs.Rule.{node_inlined}

@@ -1,6 +1,6 @@
 -- Inlining of calls of some lambdas, the callees.
 use Rattle.std.specs.Prelude.{ℕ, ◌==◌, List, [], ◌∷◌, Option, None, Some, option_map, option_and_then, is_some, unwrap_or, if◌then◌else◌}
-use Rattle.g_graph.specs.declared.steps.Rule.TheVariants.{Inline}
+use Rattle.r_rule.specs.declared.steps.Rule.TheVariants.{Inline}
 use Rattle.g_graph.specs.Plain.{PlainLambda}
 use Rattle.r_inline.specs.Called.{called_at}
 use Rattle.r_inline.specs.Rule.{applies, iln}

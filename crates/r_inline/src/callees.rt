@@ -12,7 +12,8 @@ ghost use Rattle.r_inline.specs.AskedAt.{lambdas_in, callee_at};
 
 use crate::called_by;
 use base::NoMemory;
-use g_graph::{Lambda, Op, Optimised};
+use g_graph::{Lambda, Op};
+use r_rule::Optimised;
 use std::alloc::Global;
 use std::collections::BTreeMap;
 use std::sync::Arc;

@@ -6,7 +6,7 @@ use Rattle.g_graph.specs.declared.op.Op.{Op}
 use Rattle.g_graph.specs.declared.op.Op.TheVariants.{Gamma, Theta}
 use Rattle.g_graph.specs.declared.op.Origin.{Origin}
 use Rattle.g_graph.specs.declared.op.Origin.TheVariants.{Arg}
-use Rattle.g_graph.specs.declared.steps.Step.{Step}
+use Rattle.r_rule.specs.declared.steps.Step.{Step}
 use Rattle.g_graph.proofs.lemmas.Unique.{same_number}
 use Rattle.g_arena_def.specs.Flat.{FlatRegion, FlatNode, Flat, is_in}
 use Rattle.g_arena_def.specs.Reads.{ids, found, View, view_of, node_before, node_after}

@@ -34,7 +34,8 @@ ghost use Rattle.r_inv.specs.Shape.{IsShape};
 use crate::carried_sweep::Shape;
 use base::{NoMemory, Steps};
 use g_arena::Arena;
-use g_graph::{Op, Origin, Rule, Step};
+use g_graph::{Op, Origin};
+use r_rule::{Rule, Step};
 use r_sweep::{move_uses, remove_exit};
 use std::sync::ledger::Ledger;
 

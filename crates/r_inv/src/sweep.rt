@@ -18,7 +18,7 @@ use crate::carried_sweep::{Shape, can_carry, carried};
 use crate::moving::redirect;
 use base::{NoMemory, Steps};
 use g_arena::Arena;
-use g_graph::Step;
+use r_rule::Step;
 use std::alloc::Global;
 use std::sync::ledger::Ledger;
 

@@ -7,7 +7,7 @@ use Rattle.std.proofs.lemmas.Option.{cond_some}
 use Rattle.g_graph.specs.declared.op.Op.{Op}
 use Rattle.g_graph.specs.declared.op.Op.TheVariants.{Theta}
 use Rattle.g_graph.specs.declared.op.Origin.{Origin}
-use Rattle.g_graph.specs.declared.steps.Rule.TheVariants.{Invert}
+use Rattle.r_rule.specs.declared.steps.Rule.TheVariants.{Invert}
 use Rattle.g_graph.specs.Ids.{region_ids}
 use Rattle.g_graph.specs.Plain.{RegionTree, NodeTree, node, RegionTrees, no_regions, region_then, nodes_in, nodes_of, results_of}
 use Rattle.g_graph.specs.Replace.{region_redirected}

@@ -1,5 +1,5 @@
 -- The law of the rule in a walk.
-use Rattle.g_graph.specs.declared.steps.Rule.TheVariants.{Invert}
+use Rattle.r_rule.specs.declared.steps.Rule.TheVariants.{Invert}
 use Rattle.r_invert.specs.Rule.{applies, ivt}
 use Rattle.r_invert.specs.Asked.{invert_asked}
 use Rattle.r_sweep_def.specs.Swept.{Change}

@@ -2,7 +2,7 @@
 use Rattle.std.proofs.Common.{◌≡◌, ℕ, Bool, true, false, cond, List, [], ◌∷◌, ◌++◌, length, slice_get, slice_set, Option, None, Some, option_map, refl, sym, ap, ap₂, ◌∙◌, arith}
 use Rattle.std.proofs.lemmas.Option.{same_Some}
 use Rattle.g_graph.specs.declared.op.Origin.{Origin}
-use Rattle.g_graph.specs.declared.steps.Rule.TheVariants.{Pull}
+use Rattle.r_rule.specs.declared.steps.Rule.TheVariants.{Pull}
 use Rattle.g_graph.specs.Plain.{NodeTree, id_of, inputs_in}
 use Rattle.r_pull.specs.Rule as rule
 use Rattle.r_pull.specs.Rule.{fits, where_fits, gamma_pulled, copies_of, added, gone}

@@ -8,7 +8,7 @@ use Rattle.g_graph.specs.declared.op.Op.{Op}
 use Rattle.g_graph.specs.declared.op.Op.TheVariants.{Const, Bin, Get, Gamma}
 use Rattle.g_graph.specs.declared.op.Origin.{Origin}
 use Rattle.g_graph.specs.declared.op.Origin.TheVariants.{Arg, Out}
-use Rattle.g_graph.specs.declared.steps.Rule.TheVariants.{Pull}
+use Rattle.r_rule.specs.declared.steps.Rule.TheVariants.{Pull}
 use Rattle.g_graph.specs.Ids.{region_ids}
 use Rattle.g_graph.specs.Plain.{RegionTree, region, NodeTree, node, no_regions, nodes_of, regions_of, PlainLambda}
 use Rattle.g_graph.specs.Program.{lambda_values}

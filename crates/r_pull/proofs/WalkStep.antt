@@ -7,7 +7,7 @@ use Rattle.std.proofs.lemmas.Option.{same_Some}
 use Rattle.g_graph.specs.declared.op.Kind.{Kind}
 use Rattle.g_graph.specs.declared.op.Op.{Op}
 use Rattle.g_graph.specs.declared.op.Origin.{Origin}
-use Rattle.g_graph.specs.declared.steps.Rule.TheVariants.{Pull}
+use Rattle.r_rule.specs.declared.steps.Rule.TheVariants.{Pull}
 use Rattle.g_graph.specs.Change.{has_node}
 use Rattle.g_graph.specs.Count.{region_values}
 use Rattle.g_graph.specs.Ids.{region_ids, nodes_ids}

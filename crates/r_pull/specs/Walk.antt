@@ -2,7 +2,7 @@
 -- first, before the node itself. What is behind a node is written already; there the Gamma stands that the node moves into.
 use Rattle.std.specs.Prelude.{List, [], Option, None, Some, option_and_then}
 use Rattle.g_graph.specs.declared.op.Origin.{Origin}
-use Rattle.g_graph.specs.declared.steps.Rule.TheVariants.{Pull}
+use Rattle.r_rule.specs.declared.steps.Rule.TheVariants.{Pull}
 use Rattle.g_graph.specs.Plain.{RegionTree, region, NodeTree, node, NodeTrees, no_nodes, node_then, RegionTrees, no_regions, region_then, id_of}
 use Rattle.g_graph.specs.Program.{lambda_values}
 use Rattle.r_pull.specs.Rule as rule

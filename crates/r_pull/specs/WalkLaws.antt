@@ -1,6 +1,6 @@
 -- The law that a walk of Pull is its sweep.
 use Rattle.std.specs.Prelude.{◌≡◌, reverse}
-use Rattle.g_graph.specs.declared.steps.Rule.TheVariants.{Pull}
+use Rattle.r_rule.specs.declared.steps.Rule.TheVariants.{Pull}
 use Rattle.g_graph.specs.Ids.{region_ids}
 use Rattle.g_graph.specs.WellFormed.{IsWellFormed}
 use Rattle.r_pull.specs.Rule.{applies, pll}

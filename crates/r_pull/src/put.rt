@@ -2,7 +2,7 @@
 
 ghost use Rattle.std.specs.Prelude.{◌≡◌, ◌∷◌, ◌++◌, [], ℕ, List, None, true, OnOk, IfSome, length};
 ghost use Rattle.g_graph.specs.declared.op.Origin.{Origin};
-ghost use Rattle.g_graph.specs.declared.steps.Rule.TheVariants.{Pull};
+ghost use Rattle.r_rule.specs.declared.steps.Rule.TheVariants.{Pull};
 ghost use Rattle.g_graph.specs.Plain.{id_of, inputs_in};
 ghost use Rattle.r_pull.specs.Walk.{put_where};
 ghost use Rattle.r_pull.specs.declared.users.User.TheVariants.{Entries};
@@ -16,7 +16,8 @@ use crate::counts::Counts;
 use crate::users::{User, Users};
 use crate::{Moved, pull_into};
 use base::NoMemory;
-use g_graph::{Node, Rule, Step, is_pure};
+use g_graph::{Node, is_pure};
+use r_rule::{Rule, Step};
 use std::alloc::Global;
 
 /// The node moves into one that is written, where it may, or is written.

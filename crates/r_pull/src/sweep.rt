@@ -10,7 +10,8 @@ ghost use Rattle.r_walk.specs.Walks.{HasGained};
 use crate::walk_laws::pull_walks_are_sweeps;
 use crate::walker::walk;
 use base::NoMemory;
-use g_graph::{Lambda, Step};
+use g_graph::Lambda;
+use r_rule::Step;
 use std::alloc::Global;
 
 /// What a sweep of Pull makes of a lambda: the rule is tried at each node that the lambda has, from

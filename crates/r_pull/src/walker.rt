@@ -13,7 +13,8 @@ use crate::counts::Counts;
 use crate::put::put;
 use crate::users::Users;
 use base::NoMemory;
-use g_graph::{Lambda, Node, Origin, Region, Step, values};
+use g_graph::{Lambda, Node, Origin, Region, values};
+use r_rule::Step;
 use smallvec::SmallVec;
 use std::alloc::Global;
 

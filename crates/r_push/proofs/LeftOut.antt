@@ -1,7 +1,7 @@
 -- A node that leaves: what is outside then, and what uses of it become.
 use Rattle.std.proofs.Common.{◌≡◌, ◌==◌, ◌&&◌, ◌+◌, ℕ, Bool, true, false, if◌then◌else◌, List, [], ◌∷◌, ◌++◌, length, slice_get, unwrap_or, sym, ap, ◌∙◌}
 use Rattle.g_graph.specs.declared.op.Origin.TheVariants.{Arg, Out}
-use Rattle.g_graph.specs.declared.steps.Rule.TheVariants.{Push}
+use Rattle.r_rule.specs.declared.steps.Rule.TheVariants.{Push}
 use Rattle.g_graph.specs.Plain.{NodeTree, id_of, nodes_of}
 use Rattle.g_graph.specs.Replace.{node_redirected}
 use Rattle.g_graph.specs.Splice.{args_to_inputs}

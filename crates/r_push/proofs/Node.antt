@@ -42,7 +42,7 @@ use Rattle.r_walk.proofs.lemmas.Contexts.{whole_part}
 use Rattle.r_walk.proofs.lemmas.Local.{not_in_before, not_in_after}
 use Rattle.r_walk.proofs.lemmas.Moves.{IsAhead, ahead_less, argument_now, both_moves, origins_twice, nodes_twice, inputs-redirected}
 use Rattle.r_walk.proofs.lemmas.Uses.{in_append, in_moved, not_read, nodes_not_read}
-use Rattle.g_graph.specs.declared.steps.Rule.TheVariants.{Push}
+use Rattle.r_rule.specs.declared.steps.Rule.TheVariants.{Push}
 
 abbrev pub logged : PlainLambda → Walking → Logged
 logged l w = record { lambda = l; steps = w.steps }

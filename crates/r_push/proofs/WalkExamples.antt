@@ -4,8 +4,8 @@ use Rattle.val_core.specs.declared.operation.Op2.TheVariants.{Add, Sub, Mul, Slt
 use Rattle.g_graph.specs.declared.op.Kind.TheVariants.{Value, Memory, Io}
 use Rattle.g_graph.specs.declared.op.Op.TheVariants.{Const, Bin, Get, Gamma, Theta}
 use Rattle.g_graph.specs.declared.op.Origin.TheVariants.{Arg, Out}
-use Rattle.g_graph.specs.declared.steps.Rule.TheVariants.{Push}
-use Rattle.g_graph.specs.declared.steps.Step.{Step}
+use Rattle.r_rule.specs.declared.steps.Rule.TheVariants.{Push}
+use Rattle.r_rule.specs.declared.steps.Step.{Step}
 use Rattle.g_graph.specs.Ids.{region_ids}
 use Rattle.g_graph.specs.Plain.{RegionTree, region, node, nodes_of, regions_of, PlainLambda}
 use Rattle.g_graph.specs.Program.{lambda_values}

@@ -2,7 +2,7 @@
 use Rattle.std.specs.Prelude.{◌≡◌}
 use Rattle.g_graph.specs.Ids.{region_ids}
 use Rattle.g_graph.specs.WellFormed.{IsWellFormed}
-use Rattle.g_graph.specs.declared.steps.Rule.TheVariants.{Push}
+use Rattle.r_rule.specs.declared.steps.Rule.TheVariants.{Push}
 use Rattle.r_push.specs.Rule.{applies, psh}
 use Rattle.r_push.specs.Walk.{walked}
 use Rattle.r_sweep_def.specs.Swept.{Logged, Change, swept_by}

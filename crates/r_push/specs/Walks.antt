@@ -1,6 +1,6 @@
 -- What the parts of the walk promise.
 use Rattle.std.specs.Prelude.{◌≡◌, ◌+◌, ◌<◌, ◌^◌, ℕ, true, List, length}
-use Rattle.g_graph.specs.declared.steps.Step.{Step}
+use Rattle.r_rule.specs.declared.steps.Step.{Step}
 use Rattle.g_graph.specs.declared.op.Origin.{Origin}
 use Rattle.g_graph.specs.Plain.{NodeTree, node, RegionTrees, id_of, op_of, nodes_of, has_none}
 use Rattle.g_graph.specs.Splice.{joined_nodes}

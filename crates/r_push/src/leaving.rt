@@ -1,7 +1,7 @@
 //! Nodes that leave a region.
 
 ghost use Rattle.std.specs.Prelude.{◌≡◌, ◌&&◌, ◌^◌, [], ◌∷◌, suc, true, nat_lt, map, List, IfOk, OnOk, slice_get};
-ghost use Rattle.g_graph.specs.declared.steps.Step.{Step};
+ghost use Rattle.r_rule.specs.declared.steps.Step.{Step};
 ghost use Rattle.g_graph.specs.Plain.{NodeTree, regions_in, regions_of, has_none};
 ghost use Rattle.g_graph.specs.Replace.{node_redirected};
 ghost use Rattle.g_graph.specs.Splice.{args_to_inputs};
@@ -16,10 +16,9 @@ ghost use Rattle.r_push.specs.Walks.{exit_in, walking, IsCursor, IsWalked, HasRo
 use crate::exit::Exit;
 use crate::now::{inputs_now, origin_now};
 use base::NoMemory;
-use g_graph::{
-    ArgsToInputs, Node, Origin, Region, Rule, Step, is_pure, redirect_origins, same_origin,
-};
+use g_graph::{ArgsToInputs, Node, Origin, Region, is_pure, redirect_origins, same_origin};
 use r_edit::may_change_size;
+use r_rule::{Rule, Step};
 use r_walk::{Moves, Uses};
 use std::alloc::Global;
 

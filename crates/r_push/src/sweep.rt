@@ -10,7 +10,8 @@ ghost use Rattle.r_walk.specs.Walks.{HasGained};
 use crate::walk_laws::walk_is_sweep;
 use crate::walker::walk;
 use base::NoMemory;
-use g_graph::{Lambda, Step};
+use g_graph::Lambda;
+use r_rule::Step;
 use std::alloc::Global;
 
 /// What a sweep of push makes of a lambda: the rule is tried at each node that the lambda has, in

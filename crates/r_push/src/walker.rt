@@ -15,7 +15,8 @@ use crate::leaving::{Outside, Place, leave, leaves};
 use crate::now::origins_now;
 use crate::staying::{entered, write};
 use base::NoMemory;
-use g_graph::{Lambda, Node, Region, Step, values};
+use g_graph::{Lambda, Node, Region, values};
+use r_rule::Step;
 use r_walk::{Moves, Uses, uses_of};
 use std::alloc::Global;
 

@@ -1,11 +1,16 @@
-//! The rules by name and in order, as recipes and reports have them.
+//! The rules by name and in order, the steps that apply them, and what a recipe made of a lambda.
 //! Promise: each rule has its name and its index in the order.
+//! Always: an `Optimised` holds a well-formed lambda.
 #![tactic(auto)]
+
+mod optimised;
+mod steps;
 
 ghost use Rattle.std.specs.Prelude.{◌≡◌, ◌<◌};
 ghost use Rattle.r_rule.specs.Names.{all_rules, rule_name, rule_place};
 
-use g_graph::Rule;
+pub use optimised::{Optimised, StepList};
+pub use steps::{Rule, Step};
 
 /// The rules in the order in which a report lists them.
 pub fn all_rules() -> [Rule; 9]

@@ -1,6 +1,6 @@
 -- What a sweep over an indexed list of nodes promises.
 use Rattle.std.specs.Prelude.{◌≡◌, ℕ, List}
-use Rattle.g_graph.specs.declared.steps.Step.{Step}
+use Rattle.r_rule.specs.declared.steps.Step.{Step}
 use Rattle.g_graph.specs.Plain.{PlainLambda}
 use Rattle.g_graph.specs.WellFormed.{IsWellFormed}
 use Rattle.g_arena_def.specs.Flat.{Flat, StandsFor}

@@ -1,6 +1,6 @@
 -- What the walk asks is what the rule is said to be local by.
 use Rattle.std.proofs.Common.{◌≡◌, ℕ, [], Option, None, Some, option_map, refl, ap, ◌∙◌}
-use Rattle.g_graph.specs.declared.steps.Rule.TheVariants.{Unroll}
+use Rattle.r_rule.specs.declared.steps.Rule.TheVariants.{Unroll}
 use Rattle.g_graph.specs.Ids.{region_ids}
 use Rattle.g_graph.specs.Plain.{NodeTree, node, no_nodes, node_then, no_regions, region_then, regions_in}
 use Rattle.g_graph.specs.WellFormed.{IsWellFormed}

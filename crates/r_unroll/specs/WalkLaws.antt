@@ -1,5 +1,5 @@
 -- The law of the rule in a walk.
-use Rattle.g_graph.specs.declared.steps.Rule.TheVariants.{Unroll}
+use Rattle.r_rule.specs.declared.steps.Rule.TheVariants.{Unroll}
 use Rattle.r_sweep_def.specs.Swept.{Change}
 use Rattle.r_unroll.specs.Rule.{applies, url}
 use Rattle.r_unroll.specs.Asked.{unroll_asked}

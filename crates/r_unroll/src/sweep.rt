@@ -4,7 +4,7 @@ ghost use Rattle.std.specs.Prelude.{◌≡◌, [], ◌∷◌, false, IfOk, OnErr
 ghost use Rattle.g_graph.specs.Ids.{region_ids};
 ghost use Rattle.g_graph.specs.Plain.{node, regions_of};
 ghost use Rattle.g_graph.specs.WellFormed.{IsWellFormed};
-ghost use Rattle.g_graph.specs.declared.steps.Rule.TheVariants.{Unroll};
+ghost use Rattle.r_rule.specs.declared.steps.Rule.TheVariants.{Unroll};
 ghost use Rattle.g_mean.specs.Copies.{AllClosed};
 ghost use Rattle.r_sweep_def.specs.Swept.{swept_by};
 ghost use Rattle.r_unroll.specs.WalkLaws.{unroll_change};
@@ -15,7 +15,8 @@ ghost use Rattle.r_walk.specs.Walks.{HasGained};
 use crate::walk_laws::unroll_is_local;
 use crate::{UnrolledNode, unrolled_node};
 use base::NoMemory;
-use g_graph::{Lambda, Op, Origin, Region, Rule, Step};
+use g_graph::{Lambda, Op, Origin, Region};
+use r_rule::{Rule, Step};
 use r_walk::laws::walks_are_sweeps;
 use r_walk::{New, Said, Uses, WalkRule, Words, becomes_or_stays, walk};
 use std::alloc::Global;

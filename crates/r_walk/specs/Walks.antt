@@ -1,8 +1,8 @@
 -- What the parts of the walk promise.
 use Rattle.std.specs.Prelude.{◌≡◌, ◌++◌, ◌==◌, ℕ, Bool, true, List, if◌then◌else◌, slice_get, unwrap_or}
 use Rattle.g_graph.specs.declared.op.Origin.TheVariants.{Out}
-use Rattle.g_graph.specs.declared.steps.Rule.{Rule}
-use Rattle.g_graph.specs.declared.steps.Step.{Step}
+use Rattle.r_rule.specs.declared.steps.Rule.{Rule}
+use Rattle.r_rule.specs.declared.steps.Step.{Step}
 use Rattle.g_graph.specs.Count.{node_values, nodes_values}
 use Rattle.g_graph.specs.Plain.{NodeTree, id_of, nodes_of}
 use Rattle.g_graph.specs.Splice.{joined_nodes}

@@ -8,7 +8,8 @@ ghost use Rattle.r_walk.specs.Asks.{made_of, part_of, said_of, AreSoundIn};
 
 use crate::{Uses, Words};
 use base::NoMemory;
-use g_graph::{Node, Op, Origin, Region, Rule};
+use g_graph::{Node, Op, Origin, Region};
+use r_rule::Rule;
 use std::alloc::Global;
 
 /// What comes in the place of a node: nodes that are not walked, the origins that uses of its
@@ -52,7 +53,7 @@ pub trait WalkRule {
     ghost use Rattle.std.specs.Prelude.{Bool, List};
     ghost use Rattle.g_graph.specs.Plain.{NodeTrees};
     ghost use Rattle.g_graph.specs.declared.op.Origin.{Origin};
-    ghost use Rattle.g_graph.specs.declared.steps.Rule.{Rule};
+    ghost use Rattle.r_rule.specs.declared.steps.Rule.{Rule};
     ghost use Rattle.r_walk.specs.Walk.{Asked};
 
     ghost rule: { Self → Rule };

@@ -8,7 +8,7 @@ ghost use Rattle.g_graph.specs.Count.{node_values};
 ghost use Rattle.g_graph.specs.Splice.{joined_nodes};
 ghost use Rattle.g_graph.specs.WellFormed.{IsWellFormed};
 ghost use Rattle.g_mean.specs.Copies.{IsClosed, AllClosed};
-ghost use Rattle.g_graph.specs.declared.steps.Step.{Step};
+ghost use Rattle.r_rule.specs.declared.steps.Step.{Step};
 ghost use Rattle.r_walk.specs.Walk.{Cursor, inputs_of_nodes, results_used, walk_region, walk_regions, walk_nodes, walk_node, open_at, walked};
 ghost use Rattle.r_walk.specs.Around.{AreWords, AreUses};
 ghost use Rattle.r_walk.specs.Asks.{walking, IsSound, AreSoundIn, AllSound, AreSoundNodes, AreInnerClosed};
@@ -21,7 +21,8 @@ use crate::uses::{Uses, from_on, uses_of, uses_of_opened};
 use crate::words::Words;
 use crate::{New, Opening, Said, WalkRule};
 use base::NoMemory;
-use g_graph::{Lambda, Node, Origin, Region, Step, redirect_origins, values};
+use g_graph::{Lambda, Node, Origin, Region, redirect_origins, values};
+use r_rule::Step;
 use smallvec::SmallVec;
 use std::alloc::Global;
 

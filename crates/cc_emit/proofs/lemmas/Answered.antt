@@ -3,7 +3,7 @@ use Rattle.std.proofs.Common.{◌≡◌, ℕ, ◌+◌, ◌<◌, refl, sym, ap, a
 use Rattle.std.proofs.lemmas.List.{map-append, take_more}
 use Rattle.std.proofs.lemmas.Option.{slice_get-map, slice_get_read}
 use Rattle.std.specs.Prelude.{slice_get}
-use Rattle.g_graph.specs.Plain.{PlainOptimised}
+use Rattle.r_rule.specs.Optimised.{PlainOptimised}
 use Rattle.s_linear.specs.declared.frame.CodeForm.{CodeForm}
 use Rattle.rv_layout.specs.declared.item.Item.{Item}
 use Rattle.rv_layout.specs.Layout.{item_lists}

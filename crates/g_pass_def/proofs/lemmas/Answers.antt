@@ -7,8 +7,9 @@ use Rattle.std.proofs.lemmas.List.FromFn.{length-map-range_with_len, get_or-map-
 use Rattle.std.proofs.lemmas.Option.{slice_get-map, slice_get-get_or, unwrap_or-slice_get}
 use Rattle.board_core.specs.Answers.{IsRanked, all_some, answer_below, answer}
 use Rattle.board_core.proofs.lemmas.Answers.{some-of, same-results, answers-come-of-deps, jobs-have-answers}
-use Rattle.g_graph.specs.declared.steps.Rule.{Rule}
-use Rattle.g_graph.specs.Plain.{PlainLambda, PlainOptimised}
+use Rattle.r_rule.specs.declared.steps.Rule.{Rule}
+use Rattle.g_graph.specs.Plain.{PlainLambda}
+use Rattle.r_rule.specs.Optimised.{PlainOptimised}
 use Rattle.g_graph.specs.Program.{lambda_values}
 use Rattle.g_pass_order.specs.Calls.{no_lambda, IsOrder}
 use Rattle.g_pass_order.specs.Laws.{OrdersAreRanked, OrdersAreUnique}

@@ -2,7 +2,7 @@ use Rattle.std.proofs.Common.{rules, ◌∷◌, ◌++◌, [], map, take, length,
 use Rattle.std.specs.Arc.{arc_value}
 use Rattle.std.proofs.lemmas.List.{length_push}
 use Rattle.std.proofs.lemmas.Slice.Zip.{zip_turn, zip_end}
-use Rattle.g_graph.specs.Plain.{PlainOptimised}
+use Rattle.r_rule.specs.Optimised.{PlainOptimised}
 use Rattle.g_graph.specs.Program.{lambda_values}
 use Rattle.cc_compile.specs.Compiled.{row_of, rows_of}
 use Rattle.cc_compile.proofs.MadeRows.{lambda_at, rows_all, rows_more}

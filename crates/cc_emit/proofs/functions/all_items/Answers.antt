@@ -1,6 +1,6 @@
 use Rattle.std.proofs.Common.{sym, ap, subst, ◌∙◌}
 use Rattle.std.specs.Arc.{arc_value}
-use Rattle.g_graph.specs.Plain.{PlainOptimised}
+use Rattle.r_rule.specs.Optimised.{PlainOptimised}
 use Rattle.cc_emit.specs.Image.{function_items}
 use Rattle.cc_emit.specs.Laws.{IsFunction}
 use Rattle.cc_emit.proofs.lemmas.Answered.{answer_at, items_more}

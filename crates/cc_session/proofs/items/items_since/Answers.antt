@@ -1,7 +1,7 @@
 use Rattle.std.proofs.Common.{map, option_map, Some, sym, ap, subst, ◌∙◌}
 use Rattle.std.proofs.lemmas.Option.{slice_get-map}
 use Rattle.std.specs.Arc.{arc_value}
-use Rattle.g_graph.specs.Plain.{PlainOptimised}
+use Rattle.r_rule.specs.Optimised.{PlainOptimised}
 use Rattle.cc_emit.specs.Image.{function_items, lambdas_of}
 use Rattle.cc_emit.specs.Laws.{IsFunction}
 use Rattle.cc_emit.proofs.lemmas.Answered.{answer_at, items_more}

@@ -1,6 +1,6 @@
 use Rattle.std.proofs.Common.{Bool, List, sym, subst}
 use Rattle.call_order.specs.Units.{call_lists}
-use Rattle.g_graph.specs.Plain.{PlainOptimised}
+use Rattle.r_rule.specs.Optimised.{PlainOptimised}
 use Rattle.g_pass.specs.Sweep.{rules}
 use Rattle.g_pass_work.specs.Kept.{AreKept}
 use Rattle.cc_session.specs.Session.{answers_of}

@@ -1,6 +1,6 @@
 use Rattle.std.proofs.Common.{◌∷◌, [], ◌++◌, map, take, sym, ap, subst, ◌∙◌}
 use Rattle.std.specs.Arc.{arc_value}
-use Rattle.g_graph.specs.Plain.{PlainOptimised}
+use Rattle.r_rule.specs.Optimised.{PlainOptimised}
 use Rattle.s_linear.specs.declared.frame.CodeForm.TheVariants.{Plain}
 use Rattle.cc_emit.specs.Image.{frame_of, lambdas_of}
 use Rattle.cc_emit.specs.Laws.{IsFunction}

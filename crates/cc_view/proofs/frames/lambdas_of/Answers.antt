@@ -1,6 +1,6 @@
 use Rattle.std.proofs.Common.{◌∷◌, [], ◌++◌, map, take, sym, ap, ◌∙◌}
 use Rattle.std.specs.Arc.{arc_value}
-use Rattle.g_graph.specs.Plain.{PlainOptimised}
+use Rattle.r_rule.specs.Optimised.{PlainOptimised}
 use Rattle.cc_emit.specs.Image.{lambdas_of}
 use Rattle.cc_view.proofs.FrameLemmas.{lambdas-more}
 use Rattle.cc_view.proofs.frames.lambdas_of.Goals as goal

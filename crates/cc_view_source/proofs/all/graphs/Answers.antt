@@ -1,5 +1,6 @@
 use Rattle.std.proofs.Common.{add-one, ap, subst}
-use Rattle.g_graph.specs.Plain.{PlainLambda, PlainOptimised}
+use Rattle.g_graph.specs.Plain.{PlainLambda}
+use Rattle.r_rule.specs.Optimised.{PlainOptimised}
 use Rattle.cc_view_source.specs.Names.{function_name}
 use Rattle.cc_view_source.specs.Drawn.{IsShown}
 use Rattle.cc_view_source.proofs.all.graphs.Goals as goal

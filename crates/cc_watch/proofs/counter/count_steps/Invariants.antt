@@ -1,5 +1,5 @@
 use Rattle.std.proofs.Common.{◌≡◌, ◌+◌, ◌%◌, ◌^◌, take, slice_index}
-use Rattle.g_graph.specs.declared.steps.Rule.{Rule}
+use Rattle.r_rule.specs.declared.steps.Rule.{Rule}
 use Rattle.r_rule.specs.Names.{rule_place}
 use Rattle.cc_watch.specs.Texts.{steps_of}
 use Rattle.cc_watch.proofs.counter.count_steps.Given as goal

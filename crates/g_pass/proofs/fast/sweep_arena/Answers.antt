@@ -1,4 +1,4 @@
-use Rattle.g_graph.specs.declared.steps.Rule.TheVariants.{Cne, Dne, Inv}
+use Rattle.r_rule.specs.declared.steps.Rule.TheVariants.{Cne, Dne, Inv}
 use Rattle.g_pass.proofs.FastSweeps.{of_rule_ok, of_rule_err}
 use Rattle.g_pass.proofs.fast.sweep_arena.Goals as goal
 

@@ -1,7 +1,7 @@
 -- What a walk makes is what the sweep makes, and well formed.
 use Rattle.std.proofs.Common.{map}
 use Rattle.std.specs.Arc.{arc_value}
-use Rattle.g_graph.specs.declared.steps.Rule.TheVariants.{Fold, Push, Pull, Unroll, Invert}
+use Rattle.r_rule.specs.declared.steps.Rule.TheVariants.{Fold, Push, Pull, Unroll, Invert}
 use Rattle.g_graph.specs.Ids.{region_ids}
 use Rattle.g_pass_def.specs.Answers.{lambdas_of}
 use Rattle.g_pass_def.specs.Sweep.{in_order}

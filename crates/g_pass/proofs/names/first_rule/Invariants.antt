@@ -1,5 +1,5 @@
 use Rattle.std.proofs.Common.{◌≢◌, ◌++◌, ◌<◌, ℕ, List}
-use Rattle.g_graph.specs.declared.steps.Rule.{Rule}
+use Rattle.r_rule.specs.declared.steps.Rule.{Rule}
 use Rattle.r_rule.specs.Names.{rule_name, rule_place}
 use Rattle.g_pass.proofs.names.first_rule.Given as goal
 

@@ -9,7 +9,7 @@ use Rattle.board_core.specs.Answers.{IsRanked}
 use Rattle.board_core.specs.Board.{Program}
 use Rattle.board_core.specs.History.{dep_lists}
 use Rattle.board_core.specs.Alone.{AreResults}
-use Rattle.g_graph.specs.Plain.{PlainOptimised}
+use Rattle.r_rule.specs.Optimised.{PlainOptimised}
 use Rattle.g_pass_def.specs.Answers.{program}
 use Rattle.g_pass.specs.Sweep.{rules}
 use Rattle.g_pass_work.specs.Renewal.{functions_of, renewal, stale_jobs}

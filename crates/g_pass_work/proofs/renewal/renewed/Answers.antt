@@ -5,7 +5,7 @@ use Rattle.std.proofs.lemmas.Result.{IfOk-weaker}
 use Rattle.call_order.specs.Units.{call_lists}
 use Rattle.board_core.specs.Answers.{IsRanked}
 use Rattle.board_core.specs.Alone.{AreResults}
-use Rattle.g_graph.specs.Plain.{PlainOptimised}
+use Rattle.r_rule.specs.Optimised.{PlainOptimised}
 use Rattle.g_pass_def.specs.Answers.{program, AreAnswers}
 use Rattle.g_pass.specs.Sweep.{rules}
 use Rattle.g_pass_work.specs.Renewal.{merged, renewal}

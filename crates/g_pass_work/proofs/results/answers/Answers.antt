@@ -6,7 +6,7 @@ use Rattle.board_core.specs.Board.{Program}
 use Rattle.board_core.specs.History.{dep_lists}
 use Rattle.board_core.specs.Alone.{AreResults}
 use Rattle.call_order.specs.Units.{call_lists}
-use Rattle.g_graph.specs.Plain.{PlainOptimised}
+use Rattle.r_rule.specs.Optimised.{PlainOptimised}
 use Rattle.g_pass_def.specs.Answers.{AreAnswers}
 use Rattle.g_pass.specs.Sweep.{rules}
 use Rattle.g_pass_work.proofs.Answered.{ranked, same_program, answered}

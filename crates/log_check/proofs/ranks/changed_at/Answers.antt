@@ -5,7 +5,7 @@ use Rattle.std.proofs.lemmas.Option.{slice_get-get_or}
 use Rattle.std.proofs.lemmas.Result.{IfErr-weaker, IfOk-weaker}
 use Rattle.std.specs.Arc.{arc_value}
 use Rattle.call_order.specs.Units.{call_lists}
-use Rattle.g_graph.specs.Plain.{PlainOptimised}
+use Rattle.r_rule.specs.Optimised.{PlainOptimised}
 use Rattle.g_pass_def.specs.Answers.{lambdas_of}
 use Rattle.g_pass_def.specs.Replayed.{lambdas_at}
 use Rattle.log_check.specs.Right.{AreRightUntil}

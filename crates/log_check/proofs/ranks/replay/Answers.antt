@@ -3,7 +3,7 @@ use Rattle.std.specs.Prelude.{slice_index}
 use Rattle.std.proofs.lemmas.List.{length-map}
 use Rattle.std.specs.Arc.{arc_value}
 use Rattle.call_order.specs.Units.{call_lists}
-use Rattle.g_graph.specs.Plain.{PlainOptimised}
+use Rattle.r_rule.specs.Optimised.{PlainOptimised}
 use Rattle.g_pass_def.specs.Answers.{lambdas_of}
 use Rattle.log_check.proofs.Taken.{all-right, begins}
 use Rattle.log_check.proofs.ranks.replay.Goals as goal

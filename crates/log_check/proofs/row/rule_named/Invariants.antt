@@ -1,5 +1,5 @@
 use Rattle.std.proofs.Common.{◌≢◌, ◌<◌}
-use Rattle.g_graph.specs.declared.steps.Rule.{Rule}
+use Rattle.r_rule.specs.declared.steps.Rule.{Rule}
 use Rattle.r_rule.specs.Names.{rule_name, rule_place}
 use Rattle.log_check.proofs.row.rule_named.Given as goal
 

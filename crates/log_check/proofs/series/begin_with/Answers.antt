@@ -1,8 +1,8 @@
 use Rattle.std.proofs.Common.{◌≡◌, rules}
 use Rattle.std.specs.Bool.{Decides}
 use Rattle.std.proofs.lemmas.Slice.Eq.{slice_eq-Decides}
-use Rattle.g_graph.specs.declared.steps.Step.{Step}
-use Rattle.g_graph.specs.contracts.steps.StepPartialEq.TheImpl as step_eq
+use Rattle.r_rule.specs.declared.steps.Step.{Step}
+use Rattle.r_rule.specs.contracts.steps.StepPartialEq.TheImpl as step_eq
 use Rattle.log_check.proofs.series.begin_with.Goals as goal
 
 -- steps that `==` finds equal are one

@@ -1,7 +1,7 @@
 -- The callee that was found.
 use Rattle.std.proofs.Common.{Some, ap, ◌∙◌}
 use Rattle.std.specs.Arc.{arc_value}
-use Rattle.g_graph.specs.Plain.{PlainOptimised}
+use Rattle.r_rule.specs.Optimised.{PlainOptimised}
 use Rattle.r_inline.proofs.Numbered.{lambda_is}
 use Rattle.r_inline.proofs.callees.lambda_at.Goals as goal
 

@@ -2,7 +2,8 @@
 
 ghost use Rattle.std.specs.Prelude.{◌≡◌};
 
-use crate::{Lambda, Step};
+use crate::Step;
+use g_graph::Lambda;
 use std::marker::Model;
 
 /// The steps that a recipe took, in order. Contracts see the list. It is made of a vector and gives
@@ -14,8 +15,8 @@ pub struct StepList {
 
 impl Model for StepList {
     ghost use Rattle.std.specs.Prelude.{List};
-    ghost use Rattle.g_graph.specs.declared.steps.Step.{Step};
-    ghost use Rattle.g_graph.specs.Codes.{coded_steps};
+    ghost use Rattle.r_rule.specs.declared.steps.Step.{Step};
+    ghost use Rattle.r_rule.specs.Optimised.{coded_steps};
 
     ghost Value = { List Step };
 
@@ -58,8 +59,8 @@ pub struct Optimised {
 }
 
 impl Model for Optimised {
-    ghost use Rattle.g_graph.specs.Plain.{PlainOptimised};
-    ghost use Rattle.g_graph.specs.Codes.{coded_optimised};
+    ghost use Rattle.r_rule.specs.Optimised.{PlainOptimised};
+    ghost use Rattle.r_rule.specs.Optimised.{coded_optimised};
     ghost use Rattle.g_graph.specs.WellFormed.{IsWellFormed};
 
     ghost Value = { PlainOptimised };
