@@ -29,25 +29,14 @@ pub fn if_stmt(alloc: Global, c: Option<TExpr>, s: TStmt) -> Result<TStmt, NoMem
 fn if_then(alloc: Global, c: TExpr, s: TStmt) -> Result<TStmt, NoMemory>
     ensures { IfOk result (λ r. r ≡ if_else c s null) }
 {
-    let then = match Box::new(alloc, s) {
-        Ok(then) => then,
-        Err(_) => {
-            drop(c);
-            return Err(NoMemory);
-        }
-    };
+    let then = Box::new(alloc, s)?;
     let null = TStmt {
         form: StmtForm::Null,
     };
-    match Box::new(alloc, null) {
-        Ok(otherwise) => Ok(TStmt {
-            form: StmtForm::IfElse(c, then, otherwise),
-        }),
-        Err(_) => {
-            drop(c);
-            Err(NoMemory)
-        }
-    }
+    let otherwise = Box::new(alloc, null)?;
+    Ok(TStmt {
+        form: StmtForm::IfElse(c, then, otherwise),
+    })
 }
 
 /// An `if` with its `else` (6.8.4.1).
@@ -57,15 +46,10 @@ pub fn with_else(alloc: Global, s: TStmt, otherwise: TStmt) -> Result<TStmt, NoM
     match s.form {
         StmtForm::IfElse(c, then, none) => {
             drop(none);
-            match Box::new(alloc, otherwise) {
-                Ok(otherwise) => Ok(TStmt {
-                    form: StmtForm::IfElse(c, then, otherwise),
-                }),
-                Err(_) => {
-                    drop(c);
-                    Err(NoMemory)
-                }
-            }
+            let otherwise = Box::new(alloc, otherwise)?;
+            Ok(TStmt {
+                form: StmtForm::IfElse(c, then, otherwise),
+            })
         }
         form => {
             drop(otherwise);
