@@ -19,10 +19,10 @@ use Rattle.r_fold.specs.Laws.{FoldIsAStep}
 use Rattle.r_cne.specs.Laws.{CneIsAStep}
 use Rattle.r_dne.specs.Laws.{DneIsAStep}
 use Rattle.r_inv.specs.Laws.{InvIsAStep}
-use Rattle.r_push.specs.Laws.{PshIsAStep}
-use Rattle.r_pull.specs.Laws.{PllIsAStep}
-use Rattle.r_unroll.specs.Laws.{UrlIsAStep}
-use Rattle.r_invert.specs.Laws.{IvtIsAStep}
+use Rattle.r_push.specs.Laws.{PushIsAStep}
+use Rattle.r_pull.specs.Laws.{PullIsAStep}
+use Rattle.r_unroll.specs.Laws.{UnrollIsAStep}
+use Rattle.r_invert.specs.Laws.{InvertIsAStep}
 use Rattle.r_inline.specs.Callees.{inline_change}
 use Rattle.g_pass.proofs.Folds.{sweeps_are_folds, inline_sweeps_are_folds}
 
@@ -32,16 +32,16 @@ logged l steps = record { lambda = l; steps = steps }
 is_no_truth : {A : Type 0} → false ≡ true → A
 is_no_truth e = absurd cc
 
-pub rules_keep : FoldIsAStep → CneIsAStep → DneIsAStep → InvIsAStep → PshIsAStep → PllIsAStep → UrlIsAStep → IvtIsAStep → RulesKeep
-rules_keep fold cne dne inv psh pll url ivt Cne n l well = (cne [] n l well).well_formed
-rules_keep fold cne dne inv psh pll url ivt Dne n l well = (dne [] n l well).well_formed
-rules_keep fold cne dne inv psh pll url ivt Inv n l well = (inv [] n l well).well_formed
-rules_keep fold cne dne inv psh pll url ivt Fold n l well = (fold [] n l well).well_formed
-rules_keep fold cne dne inv psh pll url ivt Push n l well = (psh [] n l well).well_formed
-rules_keep fold cne dne inv psh pll url ivt Pull n l well = (pll [] n l well).well_formed
-rules_keep fold cne dne inv psh pll url ivt Invert n l well = (ivt [] n l well).well_formed
-rules_keep fold cne dne inv psh pll url ivt Unroll n l well = (url [] n l well).well_formed
-rules_keep fold cne dne inv psh pll url ivt Inline n l well = well
+pub rules_keep : FoldIsAStep → CneIsAStep → DneIsAStep → InvIsAStep → PushIsAStep → PullIsAStep → UnrollIsAStep → InvertIsAStep → RulesKeep
+rules_keep fold cne dne inv push pull unroll invert Cne n l well = (cne [] n l well).well_formed
+rules_keep fold cne dne inv push pull unroll invert Dne n l well = (dne [] n l well).well_formed
+rules_keep fold cne dne inv push pull unroll invert Inv n l well = (inv [] n l well).well_formed
+rules_keep fold cne dne inv push pull unroll invert Fold n l well = (fold [] n l well).well_formed
+rules_keep fold cne dne inv push pull unroll invert Push n l well = (push [] n l well).well_formed
+rules_keep fold cne dne inv push pull unroll invert Pull n l well = (pull [] n l well).well_formed
+rules_keep fold cne dne inv push pull unroll invert Invert n l well = (invert [] n l well).well_formed
+rules_keep fold cne dne inv push pull unroll invert Unroll n l well = (unroll [] n l well).well_formed
+rules_keep fold cne dne inv push pull unroll invert Inline n l well = well
 
 -- ---- a sweep keeps a lambda well formed, and what the log had
 

@@ -7,7 +7,7 @@ use Rattle.r_rule.specs.declared.steps.Rule.TheVariants.{Fold, Cne, Dne, Inv, Pu
 use Rattle.r_rule.specs.declared.steps.Step.{Step}
 use Rattle.g_graph.specs.Plain.{PlainLambda}
 use Rattle.g_graph.specs.Ids.{region_ids}
-use Rattle.r_inline.specs.Rule.{iln}
+use Rattle.r_inline.specs.Rule.{lambda_inlined}
 use Rattle.r_inline.specs.Callees.{inlined_at, inline_change}
 use Rattle.r_sweep_def.specs.Swept.{Logged, tried_by, swept_by}
 use Rattle.g_pass_def.specs.Sweep.{Swept, stepped, tried, in_order, sweep}
@@ -51,9 +51,9 @@ module _ (callees : List PlainLambda) where
   inlining_is : (s : Logged) (n : ℕ) → tried rules callees Inline (as_swept s) n ≡ as_swept (tried_by (inline_change callees) s n)
   inlining_is s n = by (inlined_at callees n s.lambda)
     where
-      by : (o : Option PlainLambda) → stepped Inline n (as_swept s) (option_map (λ c. iln n c s.lambda) o)
+      by : (o : Option PlainLambda) → stepped Inline n (as_swept s) (option_map (λ c. lambda_inlined n c s.lambda) o)
           ≡ as_swept (if is_some o
-          then record { lambda = unwrap_or (option_map (λ c. iln n c s.lambda) o) s.lambda; steps = s.steps ++ record { rule = Inline; node = n } ∷ [] } else s)
+          then record { lambda = unwrap_or (option_map (λ c. lambda_inlined n c s.lambda) o) s.lambda; steps = s.steps ++ record { rule = Inline; node = n } ∷ [] } else s)
       by None = refl
       by (Some c) = refl
 

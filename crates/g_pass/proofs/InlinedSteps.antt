@@ -8,7 +8,7 @@ use Rattle.g_graph.specs.WellFormed.{IsWellFormed}
 use Rattle.r_edit.specs.Steps.{HasEach, MayStandFor}
 use Rattle.r_inline.specs.Rule as inline_rule
 use Rattle.r_inline.specs.Called.{called_at}
-use Rattle.r_inline.specs.Laws.{IlnIsAStep}
+use Rattle.r_inline.specs.Laws.{InlineIsAStep}
 use Rattle.r_inline.specs.Callees.{numbered, inlined_at}
 
 -- ---- a held lambda, by its number
@@ -37,34 +37,34 @@ pub record IsInlined (held : List PlainLambda) (n : ℕ) (l k : PlainLambda) : T
   pub callee : PlainLambda
   pub found : numbered number held ≡ Some callee
   pub can : inline_rule.applies l n callee ≡ true
-  pub is : inline_rule.iln n callee l ≡ k
+  pub is : inline_rule.lambda_inlined n callee l ≡ k
 
 inlined_by : (held : List PlainLambda) (n f : ℕ) (l k : PlainLambda) → (found : Option PlainLambda) → numbered f held ≡ found →
-    option_map (λ c. inline_rule.iln n c l) (option_and_then (λ c. if inline_rule.applies l n c then Some c else None) found) ≡ Some k → IsInlined held n l k
+    option_map (λ c. inline_rule.lambda_inlined n c l) (option_and_then (λ c. if inline_rule.applies l n c then Some c else None) found) ≡ Some k → IsInlined held n l k
 inlined_by held n f l k None at e = absurd (none-some k e)
 inlined_by held n f l k (Some c) at e = by (inline_rule.applies l n c) refl e
   where
-    by : (t : Bool) → inline_rule.applies l n c ≡ t → option_map (λ d. inline_rule.iln n d l) (if t then Some c else None) ≡ Some k → IsInlined held n l k
-    by true t e = record { number = f; callee = c; found = at; can = t; is = same_Some (inline_rule.iln n c l) k e }
+    by : (t : Bool) → inline_rule.applies l n c ≡ t → option_map (λ d. inline_rule.lambda_inlined n d l) (if t then Some c else None) ≡ Some k → IsInlined held n l k
+    by true t e = record { number = f; callee = c; found = at; can = t; is = same_Some (inline_rule.lambda_inlined n c l) k e }
     by false t e = absurd (none-some k e)
 
-pub is_inlined : (held : List PlainLambda) (n : ℕ) (l k : PlainLambda) → option_map (λ c. inline_rule.iln n c l) (inlined_at held n l) ≡ Some k → IsInlined held n l k
+pub is_inlined : (held : List PlainLambda) (n : ℕ) (l k : PlainLambda) → option_map (λ c. inline_rule.lambda_inlined n c l) (inlined_at held n l) ≡ Some k → IsInlined held n l k
 is_inlined held n l k e = by (called_at n l) e
   where
     by : (called : Option ℕ) →
-        option_map (λ c. inline_rule.iln n c l)
+        option_map (λ c. inline_rule.lambda_inlined n c l)
         (option_and_then (λ f. option_and_then (λ c. if inline_rule.applies l n c then Some c else None) (numbered f held)) called) ≡ Some k → IsInlined held n l k
     by None e = absurd (none-some k e)
     by (Some f) e = inlined_by held n f l k (numbered f held) refl e
 
 -- ---- the step
 
-pub inlined_is_a_step : IlnIsAStep → (held : List PlainLambda) (n : ℕ) (l k : PlainLambda) → IsWellFormed l → AllByRecursion IsWellFormed held →
-    option_map (λ c. inline_rule.iln n c l) (inlined_at held n l) ≡ Some k → MayStandFor held l k
-inlined_is_a_step iln held n l k well all e =
+pub inlined_is_a_step : InlineIsAStep → (held : List PlainLambda) (n : ℕ) (l k : PlainLambda) → IsWellFormed l → AllByRecursion IsWellFormed held →
+    option_map (λ c. inline_rule.lambda_inlined n c l) (inlined_at held n l) ≡ Some k → MayStandFor held l k
+inlined_is_a_step inline held n l k well all e =
     let at = is_inlined held n l k e in
-    let one = iln n at.callee l (numbered_all IsWellFormed at.number held at.callee at.found all) well at.can in
-    let made : MayStandFor held l (inline_rule.iln n at.callee l) = record {
+    let one = inline n at.callee l (numbered_all IsWellFormed at.number held at.callee at.found all) well at.can in
+    let made : MayStandFor held l (inline_rule.lambda_inlined n at.callee l) = record {
       interface = one.interface;
       well_formed = one.well_formed;
       values = one.values;

@@ -25,7 +25,7 @@ use Rattle.r_edit.specs.Size.{may_change_size}
 use Rattle.r_edit.specs.Numbering.{node_count, number_from, region_numbered}
 use Rattle.r_edit.proofs.lemmas.Numbering.{copied-ids}
 use Rattle.r_invert.specs.Compose.{in_sequence, alone}
-use Rattle.r_invert.specs.Rule.{Parts, parts_of, turn, remaining, choice, inverted, new_nodes, growth, loop_values, can_count, may_invert, in_place, ivt_here, body_inverted, with_body, ivt}
+use Rattle.r_invert.specs.Rule.{Parts, parts_of, turn, remaining, choice, inverted, new_nodes, growth, loop_values, can_count, may_invert, in_place, invert_here, body_inverted, with_body, lambda_inverted}
 use Rattle.g_pass.proofs.Sized.{body_inside}
 use Rattle.g_pass.proofs.Pulled.{has_room}
 
@@ -164,7 +164,7 @@ region_comes next n (region own ns gets) has args nodes results =
       room = has.room;
     }
 
-here_comes : (values next n : ℕ) (r s : RegionTree) → ivt_here values next n r ≡ Some s → Comes next (region_ids r) (region_ids s)
+here_comes : (values next n : ℕ) (r s : RegionTree) → invert_here values next n r ≡ Some s → Comes next (region_ids r) (region_ids s)
 here_comes values next n (region args nodes results) s e = by (node_at n nodes) e
   where
     by_node : (x : NodeTree) (o : Option RegionTree) → in_place values next x ≡ o → option_map (λ part. region_spliced n part (region args nodes results)) o ≡ Some s →
@@ -179,9 +179,9 @@ here_comes values next n (region args nodes results) s e = by (node_at n nodes) 
     by None f = absurd cc
     by (Some x) f = by_node x (in_place values next x) refl f
 
-pub inverted_next : (n : ℕ) (l : PlainLambda) → IsWellFormed l → (s : RegionTree) → body_inverted n l ≡ Some s → (ivt n l).next < 4294967296
+pub inverted_next : (n : ℕ) (l : PlainLambda) → IsWellFormed l → (s : RegionTree) → body_inverted n l ≡ Some s → (lambda_inverted n l).next < 4294967296
 inverted_next n l w s e =
-    let x = region_changed_ids (length l.objects) (ivt_here (lambda_values l) l.next n) l.body s e (body_inside l w) in
+    let x = region_changed_ids (length l.objects) (invert_here (lambda_values l) l.next n) l.body s e (body_inside l w) in
     let own = here_comes (lambda_values l) l.next n x.old x.new x.here in
     let below = (and_parts (distinct (region_ids l.body)) _ (and_parts _ (numbers_fit l) (and_parts _ _ (and_parts _ _ w).0).0).1).1 in
     let room : l.next + new_among l.next (region_ids s) < 4294967296

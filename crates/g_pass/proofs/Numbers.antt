@@ -34,25 +34,25 @@ there (Some x) e = (x, refl)
 
 -- ---- inlining
 
-inlined_next : (n : ℕ) (l c : PlainLambda) → inline_rule.applies l n c ≡ true → HasNumbers (inline_rule.iln n c l)
+inlined_next : (n : ℕ) (l c : PlainLambda) → inline_rule.applies l n c ≡ true → HasNumbers (inline_rule.lambda_inlined n c l)
 inlined_next n l c t =
-    let may = (and_parts (inline_rule.may_inline (lambda_values l) l.next c) (is_some (region_changed (inline_rule.iln_here l.next n c) l.body)) t).0 in
+    let may = (and_parts (inline_rule.may_inline (lambda_values l) l.next c) (is_some (region_changed (inline_rule.inline_here l.next n c) l.body)) t).0 in
     let numbers =
     (and_parts _ (nat_le (l.next + node_count c.body) (2 ^ 32 - 1))
     (and_parts _ (may_change_size (lambda_values l) (nodes_values (nodes_in c.body)) inline_rule.call_values) may).0).1 in
     has_room (l.next + node_count c.body) numbers
 
 by_callee : (n : ℕ) (l k : PlainLambda) (found : Option PlainLambda) →
-    option_map (λ c. inline_rule.iln n c l) (option_and_then (λ c. if inline_rule.applies l n c then Some c else None) found) ≡ Some k → HasNumbers k
+    option_map (λ c. inline_rule.lambda_inlined n c l) (option_and_then (λ c. if inline_rule.applies l n c then Some c else None) found) ≡ Some k → HasNumbers k
 by_callee n l k None e = absurd (none-some k e)
 by_callee n l k (Some c) e = by (inline_rule.applies l n c) refl e
   where
-    by : (t : Bool) → inline_rule.applies l n c ≡ t → option_map (λ d. inline_rule.iln n d l) (if t then Some c else None) ≡ Some k → HasNumbers k
-    by true t e = subst HasNumbers (same_Some (inline_rule.iln n c l) k e) (inlined_next n l c t)
+    by : (t : Bool) → inline_rule.applies l n c ≡ t → option_map (λ d. inline_rule.lambda_inlined n d l) (if t then Some c else None) ≡ Some k → HasNumbers k
+    by true t e = subst HasNumbers (same_Some (inline_rule.lambda_inlined n c l) k e) (inlined_next n l c t)
     by false t e = absurd (none-some k e)
 
 by_call : (callees : List PlainLambda) (n : ℕ) (l k : PlainLambda) (called : Option ℕ) →
-    option_map (λ c. inline_rule.iln n c l)
+    option_map (λ c. inline_rule.lambda_inlined n c l)
     (option_and_then (λ f. option_and_then (λ c. if inline_rule.applies l n c then Some c else None) (numbered f callees)) called) ≡ Some k → HasNumbers k
 by_call callees n l k None e = absurd (none-some k e)
 by_call callees n l k (Some f) e = by_callee n l k (numbered f callees) e

@@ -27,8 +27,8 @@ use Rattle.r_fold.specs.Rule.{folding, folded, fold_here}
 use Rattle.r_cne.specs.Rule.{earlier, cne_here}
 use Rattle.r_dne.specs.Rule.{eliminated, dne_here}
 use Rattle.r_inv.specs.Rule.{moved, inv_here}
-use Rattle.r_invert.specs.Rule.{in_place, ivt_here}
-use Rattle.r_unroll.specs.Rule.{node_unrolled, url_here}
+use Rattle.r_invert.specs.Rule.{in_place, invert_here}
+use Rattle.r_unroll.specs.Rule.{node_unrolled, unroll_here}
 use Rattle.r_edit.specs.Uses.{uses_replaced}
 use Rattle.g_pass.specs.Placed.{change_in, is_loop, loop_at, IsPlaced}
 use Rattle.g_pass.specs.Sweep.{applied, step}
@@ -140,11 +140,11 @@ eliminates_there n (region args nodes results) e = ap (option_and_then (eliminat
 moves_there : (n : ℕ) → ChangesOnlyAt n (inv_here n)
 moves_there n (region args nodes results) e = ap (option_and_then (moved (region args nodes results))) (not_found n nodes e)
 
-inverts_there : (values next n : ℕ) → ChangesOnlyAt n (ivt_here values next n)
+inverts_there : (values next n : ℕ) → ChangesOnlyAt n (invert_here values next n)
 inverts_there values next n (region args nodes results) e =
     ap (λ o. option_map (λ part. region_spliced n part (region args nodes results)) (option_and_then (in_place values next) o)) (not_found n nodes e)
 
-unrolls_there : (values next n : ℕ) → ChangesOnlyAt n (url_here values next n)
+unrolls_there : (values next n : ℕ) → ChangesOnlyAt n (unroll_here values next n)
 unrolls_there values next n (region args nodes results) e =
     ap (λ o. option_map (λ y. region args (node_set n y nodes) results) (option_and_then (node_unrolled values next) o)) (not_found n nodes e)
 
@@ -167,7 +167,7 @@ no_loop values next (node id Get inputs rs) e = (refl, refl)
 no_loop values next (node id Gamma inputs rs) e = (refl, refl)
 no_loop values next (node id Theta inputs rs) e = absurd cc
 
-no_loop_there : (values next n : ℕ) (r : RegionTree) → is_some (loop_at n r) ≡ false → (ivt_here values next n r ≡ None) × (url_here values next n r ≡ None)
+no_loop_there : (values next n : ℕ) (r : RegionTree) → is_some (loop_at n r) ≡ false → (invert_here values next n r ≡ None) × (unroll_here values next n r ≡ None)
 no_loop_there values next n (region args nodes results) e = by (node_at n nodes) e
   where
     by : (o : Option NodeTree) → is_some (option_and_then (λ x. if is_loop (op_of x) then Some (region args nodes results) else None) o) ≡ false →
@@ -197,9 +197,9 @@ makes_no_step Inv n l well r placed h e callees = no_step _ (applied Inv n l) (c
 makes_no_step Push n l well r placed h e callees = absurd cc
 makes_no_step Pull n l well r placed h e callees = absurd cc
 makes_no_step Invert n l well r placed h e callees =
-    let f = ivt_here (lambda_values l) l.next n in
+    let f = invert_here (lambda_values l) l.next n in
     no_step _ (applied Invert n l) (changed_as_here n f (inverts_there (lambda_values l) l.next n) l well r placed h ∙ ap is_some (no_loop_there (lambda_values l) l.next n r e).0)
 makes_no_step Unroll n l well r placed h e callees =
-    let f = url_here (lambda_values l) l.next n in
+    let f = unroll_here (lambda_values l) l.next n in
     no_step _ (applied Unroll n l) (changed_as_here n f (unrolls_there (lambda_values l) l.next n) l well r placed h ∙ ap is_some (no_loop_there (lambda_values l) l.next n r e).1)
 makes_no_step Inline n l well r placed h e callees = absurd cc

@@ -9,7 +9,7 @@ use Rattle.g_graph.specs.Plain.{RegionTree, region, NodeTree, node, NodeTrees, n
 use Rattle.g_graph.specs.Nodes.{node_at}
 use Rattle.g_graph.specs.Program.{lambda_values}
 use Rattle.r_edit.specs.Size.{may_change_size}
-use Rattle.r_pull.specs.Rule.{Pull, pull_of, where_fits, fits, added, gone, copies_of, copies_here, copies_at, most_next, region_answer, node_answer, nodes_answer, regions_answer, pll}
+use Rattle.r_pull.specs.Rule.{Pull, pull_of, where_fits, fits, added, gone, copies_of, copies_here, copies_at, most_next, region_answer, node_answer, nodes_answer, regions_answer, lambda_pulled}
 
 pub has_room : (m : ℕ) → nat_le m 4294967295 ≡ true → m < 4294967296
 has_room m e = grind (arith, nat_tests)
@@ -53,7 +53,7 @@ module _ (values next n : ℕ) (c : ℕ) where
   copies_fit : (r : RegionTree) → copies_here values next n r ≡ Some c → next + c < 4294967296
   copies_fit r e = by_pull (option_and_then (pull_of n r) (node_at n (nodes_in r))) e
 
-pub pulled_next : (n : ℕ) (l : PlainLambda) (c : ℕ) → copies_at l n ≡ Some c → (pll n l).next < 4294967296
+pub pulled_next : (n : ℕ) (l : PlainLambda) (c : ℕ) → copies_at l n ≡ Some c → (lambda_pulled n l).next < 4294967296
 pulled_next n l c e =
     let room =
     region_holds (copies_here (lambda_values l) l.next n) (λ m. l.next + m < 4294967296) (λ r m. copies_fit (lambda_values l) l.next n m r) l.body c e in

@@ -31,15 +31,15 @@ use Rattle.r_dne.specs.Laws.{DneReplaces}
 use Rattle.r_dne.specs.Rule.{dne_here}
 use Rattle.r_inv.specs.Laws.{InvReplaces}
 use Rattle.r_inv.specs.Rule.{inv_here}
-use Rattle.r_push.specs.Laws.{PshReplaces}
-use Rattle.r_push.specs.Rule.{psh_here}
-use Rattle.r_pull.specs.Laws.{PllReplaces}
-use Rattle.r_pull.specs.Rule.{pll_here}
-use Rattle.r_unroll.specs.Laws.{UrlReplaces}
-use Rattle.r_unroll.specs.Rule.{url_here}
-use Rattle.r_invert.specs.Laws.{IvtReplaces}
-use Rattle.r_invert.specs.Rule.{ivt_here, body_inverted, with_body, ivt}
-use Rattle.r_inline.specs.Laws.{IlnReplaces}
+use Rattle.r_push.specs.Laws.{PushReplaces}
+use Rattle.r_push.specs.Rule.{push_here}
+use Rattle.r_pull.specs.Laws.{PullReplaces}
+use Rattle.r_pull.specs.Rule.{pull_here}
+use Rattle.r_unroll.specs.Laws.{UnrollReplaces}
+use Rattle.r_unroll.specs.Rule.{unroll_here}
+use Rattle.r_invert.specs.Laws.{InvertReplaces}
+use Rattle.r_invert.specs.Rule.{invert_here, body_inverted, with_body, lambda_inverted}
+use Rattle.r_inline.specs.Laws.{InlineReplaces}
 use Rattle.r_inline.specs.Rule as inline_rule
 use Rattle.r_inline.specs.Callees.{inlined_at}
 use Rattle.g_pass.specs.Sweep.{applies, applied}
@@ -74,10 +74,10 @@ alone rule here ls n f l k well at edited replaces e = by (applies rule l n) e
 
 -- ---- inversion
 
-inverted-edited : (n : ℕ) (l : PlainLambda) → IsEdited (ivt_here (lambda_values l) l.next n) l (ivt n l)
+inverted-edited : (n : ℕ) (l : PlainLambda) → IsEdited (invert_here (lambda_values l) l.next n) l (lambda_inverted n l)
 inverted-edited n l = by (body_inverted n l) refl
   where
-    by : (found : Option RegionTree) → body_inverted n l ≡ found → IsEdited (ivt_here (lambda_values l) l.next n) l (unwrap_or (option_map (with_body l) found) l)
+    by : (found : Option RegionTree) → body_inverted n l ≡ found → IsEdited (invert_here (lambda_values l) l.next n) l (unwrap_or (option_map (with_body l) found) l)
     by None e = record { number = refl; params = refl; objects = refl; body = ap (λ o. unwrap_or o l.body) (sym e) }
     by (Some s) e = record { number = refl; params = refl; objects = refl; body = ap (λ o. unwrap_or o l.body) (sym e) }
 
@@ -92,25 +92,25 @@ no-objects n c l e =
     let objects = length c.objects == 0 in
     let small = nat_le (lambda_values c) most_callee_values in
     let numbers = nat_le (l.next + node_count c.body) (2 ^ 32 - 1) in
-    let may = and_parts (inline_rule.may_inline (lambda_values l) l.next c) (is_some (region_changed (inline_rule.iln_here l.next n c) l.body)) e in
+    let may = and_parts (inline_rule.may_inline (lambda_values l) l.next c) (is_some (region_changed (inline_rule.inline_here l.next n c) l.body)) e in
     let most = and_parts (objects && small && numbers) (may_change_size (lambda_values l) (nodes_values (nodes_in c.body)) inline_rule.call_values) may.0 in
     none-there c.objects (and_parts objects small (and_parts (objects && small) numbers most.0).0).0
 
-inlined-keeps : IlnReplaces → (held ls : List PlainLambda) (n f : ℕ) (l k : PlainLambda) → IsWellFormed l → AllByRecursion IsWellFormed held → HasEach held ls → slice_get ls f ≡ Some l →
-    option_map (λ c. inline_rule.iln n c l) (inlined_at held n l) ≡ Some k → Keeps ls f k
-inlined-keeps iln held ls n f l k well all each at e =
+inlined-keeps : InlineReplaces → (held ls : List PlainLambda) (n f : ℕ) (l k : PlainLambda) → IsWellFormed l → AllByRecursion IsWellFormed held → HasEach held ls → slice_get ls f ≡ Some l →
+    option_map (λ c. inline_rule.lambda_inlined n c l) (inlined_at held n l) ≡ Some k → Keeps ls f k
+inlined-keeps inline held ls n f l k well all each at e =
     let one = is_inlined held n l k e in
     let c = one.callee in
     let known = numbered_all IsWellFormed one.number held c one.found all in
     let there = numbered_there ls one.number held c one.found each in
     subst (λ (j : PlainLambda). Keeps ls f j) one.is
-    (edited-keeps (inline_rule.iln_here l.next n c) ls f l (inline_rule.iln n c l) well at (record { number = refl; params = refl; objects = refl; body = refl })
-    (λ r s part d. iln ls (slice_set ls f (inline_rule.iln n c l)) n c l r s known (no-objects n c l one.can) there part d))
+    (edited-keeps (inline_rule.inline_here l.next n c) ls f l (inline_rule.lambda_inlined n c l) well at (record { number = refl; params = refl; objects = refl; body = refl })
+    (λ r s part d. inline ls (slice_set ls f (inline_rule.lambda_inlined n c l)) n c l r s known (no-objects n c l one.can) there part d))
 
 -- ---- the rules
 
-module _ (fold : FoldReplaces) (cne : CneReplaces) (dne : DneReplaces) (inv : InvReplaces) (psh : PshReplaces) (pll : PllReplaces) (ivt_replaces : IvtReplaces) (url : UrlReplaces)
-    (iln : IlnReplaces) where
+module _ (fold : FoldReplaces) (cne : CneReplaces) (dne : DneReplaces) (inv : InvReplaces) (push : PushReplaces) (pull : PullReplaces) (invert_replaces : InvertReplaces) (unroll : UnrollReplaces)
+    (inline : InlineReplaces) where
   pub rules_keep_meaning : RulesKeepMeaning
   rules_keep_meaning Fold held ls n f l k well all each at e =
       alone Fold (fold_here n) ls n f l k well at (record { number = refl; params = refl; objects = refl; body = refl }) (λ ks r s part d. fold ls ks n l r s part d) e
@@ -121,11 +121,11 @@ module _ (fold : FoldReplaces) (cne : CneReplaces) (dne : DneReplaces) (inv : In
   rules_keep_meaning Inv held ls n f l k well all each at e =
       alone Inv (inv_here n) ls n f l k well at (record { number = refl; params = refl; objects = refl; body = refl }) (λ ks r s part d. inv ls ks n l r s part d) e
   rules_keep_meaning Push held ls n f l k well all each at e =
-      alone Push (psh_here (lambda_values l) n) ls n f l k well at (record { number = refl; params = refl; objects = refl; body = refl }) (λ ks r s part d. psh ls ks (lambda_values l) n l r s part d) e
+      alone Push (push_here (lambda_values l) n) ls n f l k well at (record { number = refl; params = refl; objects = refl; body = refl }) (λ ks r s part d. push ls ks (lambda_values l) n l r s part d) e
   rules_keep_meaning Pull held ls n f l k well all each at e =
-      alone Pull (pll_here (lambda_values l) l.next n) ls n f l k well at (record { number = refl; params = refl; objects = refl; body = refl }) (λ ks r s part d. pll ls ks (lambda_values l) n l r s part d) e
+      alone Pull (pull_here (lambda_values l) l.next n) ls n f l k well at (record { number = refl; params = refl; objects = refl; body = refl }) (λ ks r s part d. pull ls ks (lambda_values l) n l r s part d) e
   rules_keep_meaning Invert held ls n f l k well all each at e =
-      alone Invert (ivt_here (lambda_values l) l.next n) ls n f l k well at (inverted-edited n l) (λ ks r s part d. ivt_replaces ls ks (lambda_values l) n l r s part d) e
+      alone Invert (invert_here (lambda_values l) l.next n) ls n f l k well at (inverted-edited n l) (λ ks r s part d. invert_replaces ls ks (lambda_values l) n l r s part d) e
   rules_keep_meaning Unroll held ls n f l k well all each at e =
-      alone Unroll (url_here (lambda_values l) l.next n) ls n f l k well at (record { number = refl; params = refl; objects = refl; body = refl }) (λ ks r s part d. url ls ks (lambda_values l) l.next n l r s part d) e
-  rules_keep_meaning Inline held ls n f l k well all each at e = inlined-keeps iln held ls n f l k well all each at e
+      alone Unroll (unroll_here (lambda_values l) l.next n) ls n f l k well at (record { number = refl; params = refl; objects = refl; body = refl }) (λ ks r s part d. unroll ls ks (lambda_values l) l.next n l r s part d) e
+  rules_keep_meaning Inline held ls n f l k well all each at e = inlined-keeps inline held ls n f l k well all each at e

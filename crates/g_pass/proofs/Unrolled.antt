@@ -19,7 +19,7 @@ use Rattle.r_edit.specs.Size.{may_change_size}
 use Rattle.r_edit.proofs.lemmas.Loops.{loop_node}
 use Rattle.r_edit.specs.Numbering.{node_count, number_from, region_numbered}
 use Rattle.r_edit.proofs.lemmas.Numbering.{copied-ids}
-use Rattle.r_unroll.specs.Rule.{region_loops, second_turn_of, unrolled, growth, may_unroll, node_unrolled, url_here, body_unrolled, with_body, url}
+use Rattle.r_unroll.specs.Rule.{region_loops, second_turn_of, unrolled, growth, may_unroll, node_unrolled, unroll_here, body_unrolled, with_body, lambda_unrolled}
 use Rattle.g_pass.proofs.Sized.{body_inside}
 use Rattle.g_pass.proofs.Pulled.{has_room}
 
@@ -90,7 +90,7 @@ node_comes values next (node id Theta inputs no_regions) y e = absurd cc
 node_comes values next (node id Theta inputs (region_then r (region_then t rs))) y e = absurd cc
 node_comes values next (node id _ inputs rs) y e = absurd cc
 
-here_comes : (values next n : ℕ) (r s : RegionTree) → url_here values next n r ≡ Some s → Comes next (node_count r) (node_count s)
+here_comes : (values next n : ℕ) (r s : RegionTree) → unroll_here values next n r ≡ Some s → Comes next (node_count r) (node_count s)
 here_comes values next n (region args nodes results) s e = by (node_at n nodes) refl e
   where
     by_node : (x : NodeTree) → node_at n nodes ≡ Some x → (o : Option NodeTree) → node_unrolled values next x ≡ o →
@@ -106,9 +106,9 @@ here_comes values next n (region args nodes results) s e = by (node_at n nodes) 
     by None d f = absurd cc
     by (Some x) d f = by_node x d (node_unrolled values next x) refl f
 
-pub unrolled_next : (n : ℕ) (l : PlainLambda) → IsWellFormed l → (s : RegionTree) → body_unrolled n l ≡ Some s → (url n l).next < 4294967296
+pub unrolled_next : (n : ℕ) (l : PlainLambda) → IsWellFormed l → (s : RegionTree) → body_unrolled n l ≡ Some s → (lambda_unrolled n l).next < 4294967296
 unrolled_next n l w s e =
-    let x = region_changed_ids (length l.objects) (url_here (lambda_values l) l.next n) l.body s e (body_inside l w) in
+    let x = region_changed_ids (length l.objects) (unroll_here (lambda_values l) l.next n) l.body s e (body_inside l w) in
     let own = here_comes (lambda_values l) l.next n x.old x.new x.here in
     let room : l.next + (node_count s - node_count l.body) < 4294967296
     = omega (

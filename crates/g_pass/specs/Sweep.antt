@@ -33,10 +33,10 @@ applied Fold n l = fold_rule.fold n l
 applied Cne n l = cne_rule.cne n l
 applied Dne n l = dne_rule.dne n l
 applied Inv n l = inv_rule.inv n l
-applied Push n l = push_rule.psh n l
-applied Pull n l = pull_rule.pll n l
-applied Invert n l = invert_rule.ivt n l
-applied Unroll n l = unroll_rule.url n l
+applied Push n l = push_rule.lambda_pushed n l
+applied Pull n l = pull_rule.lambda_pulled n l
+applied Invert n l = invert_rule.lambda_inverted n l
+applied Unroll n l = unroll_rule.lambda_unrolled n l
 applied Inline n l = l
 
 -- whether a sweep goes from the last node to the first
@@ -53,7 +53,7 @@ is_backward Inline = false
 
 -- what a rule makes of a lambda at a node where it applies
 abbrev pub step : Rule → (callees : List PlainLambda) → (node : ℕ) → PlainLambda → Option PlainLambda
-step Inline callees n l = option_map (λ c. inline_rule.iln n c l) (inlined_at callees n l)
+step Inline callees n l = option_map (λ c. inline_rule.lambda_inlined n c l) (inlined_at callees n l)
 step r callees n l = if applies r l n then Some (applied r n l) else None
 
 -- the rules as a table, for sweeps and recipes

@@ -228,8 +228,8 @@ fn rules_keep()
     r_cne::laws::cne_keeps_meaning();
     r_dne::laws::dne_keeps_meaning();
     r_inv::laws::inv_keeps_meaning();
-    r_push::laws::psh_keeps_meaning();
-    r_pull::laws::pll_keeps_meaning();
-    r_unroll::laws::url_keeps_meaning();
-    r_invert::laws::ivt_keeps_meaning();
+    r_push::laws::push_keeps_meaning();
+    r_pull::laws::pull_keeps_meaning();
+    r_unroll::laws::unroll_keeps_meaning();
+    r_invert::laws::invert_keeps_meaning();
 }

@@ -11,11 +11,11 @@ pub fn rules_are_steps()
     r_cne::laws::cne_keeps_meaning();
     r_dne::laws::dne_keeps_meaning();
     r_inv::laws::inv_keeps_meaning();
-    r_push::laws::psh_keeps_meaning();
-    r_pull::laws::pll_keeps_meaning();
-    r_invert::laws::ivt_keeps_meaning();
-    r_unroll::laws::url_keeps_meaning();
-    r_inline::laws::iln_keeps_meaning();
+    r_push::laws::push_keeps_meaning();
+    r_pull::laws::pull_keeps_meaning();
+    r_invert::laws::invert_keeps_meaning();
+    r_unroll::laws::unroll_keeps_meaning();
+    r_inline::laws::inline_keeps_meaning();
 }
 
 /// Where a rule changes one well-formed lambda of a list, every function keeps its meaning, and so
@@ -29,11 +29,11 @@ pub fn rules_keep_meaning()
     r_cne::laws::cne_keeps_meaning();
     r_dne::laws::dne_keeps_meaning();
     r_inv::laws::inv_keeps_meaning();
-    r_push::laws::psh_keeps_meaning();
-    r_pull::laws::pll_keeps_meaning();
-    r_invert::laws::ivt_keeps_meaning();
-    r_unroll::laws::url_keeps_meaning();
-    r_inline::laws::iln_keeps_meaning();
+    r_push::laws::push_keeps_meaning();
+    r_pull::laws::pull_keeps_meaning();
+    r_invert::laws::invert_keeps_meaning();
+    r_unroll::laws::unroll_keeps_meaning();
+    r_inline::laws::inline_keeps_meaning();
 }
 
 /// What the functions of a complete list are made into under a recipe may stand for them: every

@@ -12,7 +12,7 @@ use Rattle.g_graph.specs.Splice.{region_spliced}
 use Rattle.g_graph.proofs.lemmas.Found.{found_node, node_at-joined}
 use Rattle.g_graph.proofs.lemmas.Splices.{Split, split_at}
 use Rattle.g_graph.proofs.lemmas.Unique.{same_number}
-use Rattle.r_inline.specs.Rule.{inputs_of_call, inlined, iln_here}
+use Rattle.r_inline.specs.Rule.{inputs_of_call, inlined, inline_here}
 
 -- a node is a call of the callee
 record IsCall (callee : PlainLambda) (x : NodeTree) (inputs : List Origin) : Type 0 where
@@ -43,7 +43,7 @@ pub record Inlined (next n : ℕ) (callee : PlainLambda) (args : List Kind) (nod
   pub result : s ≡ region_spliced n (inlined next callee inputs) (region args nodes results)
 
 pub inlined-at : (next n : ℕ) (callee : PlainLambda) (args : List Kind) (nodes : NodeTrees) (results : List Origin) (s : RegionTree) →
-    iln_here next n callee (region args nodes results) ≡ Some s → Inlined next n callee args nodes results s
+    inline_here next n callee (region args nodes results) ≡ Some s → Inlined next n callee args nodes results s
 inlined-at next n callee args nodes results s e = by (node_at n nodes) refl e
   where
     by-call : (x : NodeTree) → node_at n nodes ≡ Some x → (inputs : Option (List Origin)) → inputs_of_call callee x ≡ inputs →

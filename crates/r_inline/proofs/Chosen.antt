@@ -13,7 +13,7 @@ use Rattle.g_graph.specs.WellFormed.{IsWellFormed}
 use Rattle.g_graph.proofs.lemmas.Change.{region_can_change}
 use Rattle.g_graph.proofs.lemmas.Indexes.{same_number_true}
 use Rattle.r_inline.specs.Called.{called_by, called_at}
-use Rattle.r_inline.specs.Rule.{is_call, inputs_of_call, inlined, iln_here, may_inline, applies}
+use Rattle.r_inline.specs.Rule.{is_call, inputs_of_call, inlined, inline_here, may_inline, applies}
 use Rattle.r_walk.specs.Context.{ChangesOnlyAt, IsContext}
 use Rattle.r_walk.specs.Laws.{region_with}
 use Rattle.r_walk.proofs.lemmas.Contexts.{whole_part}
@@ -22,7 +22,7 @@ use Rattle.r_inline.specs.Callees.{numbered, inlined_at}
 use Rattle.r_inline.specs.Asked.{callee_for}
 use Rattle.r_inline.proofs.CalledAt.{kept_if, holds_call, calls_found}
 
-only_there : (next n : ℕ) (c : PlainLambda) → ChangesOnlyAt n (iln_here next n c)
+only_there : (next n : ℕ) (c : PlainLambda) → ChangesOnlyAt n (inline_here next n c)
 only_there next n c (region args nodes results) e =
     ap (λ o. option_map (λ inputs. region_spliced n (inlined next c inputs) (region args nodes results)) (option_and_then (inputs_of_call c) o)) (not_found n nodes e)
 
@@ -48,29 +48,29 @@ module _ (l : PlainLambda) (context : RegionTree → RegionTree) (args : List Ki
   found : node_at (id_of x) (joined_nodes before (node_then x after)) ≡ Some x
   found = found_here args before x after results first
 
-  here-is : (c : PlainLambda) → iln_here l.next (id_of x) c here ≡ option_map (λ inputs. region_spliced (id_of x) (inlined l.next c inputs) here) (inputs_of_call c x)
+  here-is : (c : PlainLambda) → inline_here l.next (id_of x) c here ≡ option_map (λ inputs. region_spliced (id_of x) (inlined l.next c inputs) here) (inputs_of_call c x)
   here-is c = ap (λ o. option_map (λ inputs. region_spliced (id_of x) (inlined l.next c inputs) here) (option_and_then (inputs_of_call c) o)) found
 
   -- ---- a call of the callee
 
   pub inlines : (c : PlainLambda) → is_call c x ≡ true →
-      region_changed (iln_here l.next (id_of x) c) l.body
+      region_changed (inline_here l.next (id_of x) c) l.body
       ≡ Some (context (region_with args before (id_of x) (nodes_in (inlined l.next c (inputs_in x))) (results_of (inlined l.next c (inputs_in x))) after results))
   inlines c e =
-      changed_at l context args before x after results around well at (iln_here l.next (id_of x) c) (only_there l.next (id_of x) c)
+      changed_at l context args before x after results around well at (inline_here l.next (id_of x) c) (only_there l.next (id_of x) c)
       (region_with args before (id_of x) (nodes_in (inlined l.next c (inputs_in x))) (results_of (inlined l.next c (inputs_in x))) after results)
       (here-is c ∙ ap (λ t. option_map (λ inputs. region_spliced (id_of x) (inlined l.next c inputs) here) (cond t (Some (inputs_in x)) None)) e
       ∙ ap Some (replaced_at args before x after results first (inlined l.next c (inputs_in x))))
 
-  not-inlined : (c : PlainLambda) → is_call c x ≡ false → region_changed (iln_here l.next (id_of x) c) l.body ≡ None
+  not-inlined : (c : PlainLambda) → is_call c x ≡ false → region_changed (inline_here l.next (id_of x) c) l.body ≡ None
   not-inlined c e =
-      unchanged_at l context args before x after results around well at (iln_here l.next (id_of x) c) (only_there l.next (id_of x) c)
+      unchanged_at l context args before x after results around well at (inline_here l.next (id_of x) c) (only_there l.next (id_of x) c)
       (here-is c ∙ ap (λ t. option_map (λ inputs. region_spliced (id_of x) (inlined l.next c inputs) here) (cond t (Some (inputs_in x)) None)) e)
 
-  changes-so : (c : PlainLambda) → is_some (region_changed (iln_here l.next (id_of x) c) l.body) ≡ is_call c x
+  changes-so : (c : PlainLambda) → is_some (region_changed (inline_here l.next (id_of x) c) l.body) ≡ is_call c x
   changes-so c = by (is_call c x) refl
     where
-      by : (t : Bool) → is_call c x ≡ t → is_some (region_changed (iln_here l.next (id_of x) c) l.body) ≡ t
+      by : (t : Bool) → is_call c x ≡ t → is_some (region_changed (inline_here l.next (id_of x) c) l.body) ≡ t
       by true e = ap is_some (inlines c e)
       by false e = ap is_some (not-inlined c e)
 

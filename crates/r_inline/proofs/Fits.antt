@@ -26,7 +26,7 @@ use Rattle.r_edit.specs.Numbering.{node_count, region_numbered}
 use Rattle.val_core.specs.Numbers.{numbers_from}
 use Rattle.r_edit.proofs.lemmas.Fits.{copies_fit}
 use Rattle.r_edit.proofs.lemmas.Numbering.{copies_are_numbered, from-not-below, from-once, from-below, none-above}
-use Rattle.r_inline.specs.Rule.{iln_here}
+use Rattle.r_inline.specs.Rule.{inline_here}
 use Rattle.r_inline.proofs.Body.{IsBody, is-body}
 use Rattle.r_inline.proofs.Call.{Inlined, inlined-at}
 
@@ -148,7 +148,7 @@ record Kept (objects next : ℕ) (callee : PlainLambda) (r s : RegionTree) : Typ
   more : (m : ℕ) → times m (region_ids s) ≤ times m (region_ids r) + times m (numbers_from next (node_count callee.body))
   below : all_of (λ m. nat_lt m (next + node_count callee.body)) (region_ids s) ≡ true
 
-here-keeps : (objects next n : ℕ) (callee : PlainLambda) → IsBody callee → (r s : RegionTree) → iln_here next n callee r ≡ Some s → every_region (region_fits objects) r ≡ true →
+here-keeps : (objects next n : ℕ) (callee : PlainLambda) → IsBody callee → (r s : RegionTree) → inline_here next n callee r ≡ Some s → every_region (region_fits objects) r ≡ true →
     Numbered next (region_ids r) → Kept objects next callee r s
 here-keeps objects next n callee body (region args nodes results) s e fits numbers = by (region_numbered next callee.body) refl
   where
@@ -164,12 +164,12 @@ here-keeps objects next n callee body (region args nodes results) s e fits numbe
           below = below-now objects next n callee body args nodes results s at fits numbers part ns outs is;
         }
 
-pub changed-fits : (n : ℕ) (callee l : PlainLambda) → IsWellFormed callee → callee.objects ≡ [] → IsWellFormed l → (s : RegionTree) → region_changed (iln_here l.next n callee) l.body ≡ Some s →
+pub changed-fits : (n : ℕ) (callee l : PlainLambda) → IsWellFormed callee → callee.objects ≡ [] → IsWellFormed l → (s : RegionTree) → region_changed (inline_here l.next n callee) l.body ≡ Some s →
     well_formed (record l { body = s; next = l.next + node_count callee.body }) ≡ true
 changed-fits n callee l well none w s e =
     let objects = length l.objects in
     let body = is-body callee well none in
-    let f = iln_here l.next n callee in
+    let f = inline_here l.next n callee in
     let nest = every_region (region_fits objects) l.body in
     let front = (and_parts (body_fits l && numbers_fit l && nest) (all_of (λ o. leaves_fit o.size 0 o.leaves) l.objects) w).0 in
     let inner = and_parts (body_fits l && numbers_fit l) nest front in

@@ -31,8 +31,8 @@ use Rattle.r_edit.proofs.lemmas.Steps.{edits_keep_interface}
 use Rattle.r_edit.specs.Numbering.{node_count, region_numbered}
 use Rattle.r_edit.proofs.lemmas.Copies.{numbered-ops}
 use Rattle.r_edit.proofs.lemmas.Fits.{copied-nodes-values}
-use Rattle.r_inline.specs.Rule.{inlined, iln_here, call_values, may_inline, applies, iln}
-use Rattle.r_inline.specs.Laws.{IlnIsAStep}
+use Rattle.r_inline.specs.Rule.{inlined, inline_here, call_values, may_inline, applies, lambda_inlined}
+use Rattle.r_inline.specs.Laws.{InlineIsAStep}
 use Rattle.r_inline.proofs.Call.{inlined-at}
 use Rattle.r_inline.proofs.Exchanged.{exchanged-complete, exchanged-program}
 use Rattle.r_inline.proofs.Fits.{changed-fits}
@@ -54,36 +54,36 @@ pub record Applies (n : ℕ) (callee l : PlainLambda) : Type 0 where
   pub numbers : nat_le (l.next + node_count callee.body) (2 ^ 32 - 1) ≡ true
   pub size : may_change_size (lambda_values l) (nodes_values (nodes_in callee.body)) call_values ≡ true
   pub body : RegionTree
-  pub changed : region_changed (iln_here l.next n callee) l.body ≡ Some body
+  pub changed : region_changed (inline_here l.next n callee) l.body ≡ Some body
 
 pub applies-parts : (n : ℕ) (callee l : PlainLambda) → applies l n callee ≡ true → Applies n callee l
 applies-parts n callee l e =
     let objects = length callee.objects == 0 in
     let small = nat_le (lambda_values callee) most_callee_values in
     let numbers = nat_le (l.next + node_count callee.body) (2 ^ 32 - 1) in
-    let a = and_parts (may_inline (lambda_values l) l.next callee) (is_some (region_changed (iln_here l.next n callee) l.body)) e in
+    let a = and_parts (may_inline (lambda_values l) l.next callee) (is_some (region_changed (inline_here l.next n callee) l.body)) e in
     let b = and_parts (objects && small && numbers) (may_change_size (lambda_values l) (nodes_values (nodes_in callee.body)) call_values) a.0 in
     let c = and_parts (objects && small) numbers b.0 in
     let d = and_parts objects small c.0 in
-    let s = some-there (region_changed (iln_here l.next n callee) l.body) a.1 in
+    let s = some-there (region_changed (inline_here l.next n callee) l.body) a.1 in
     record { none = none-there callee.objects d.0; small = d.1; numbers = c.1; size = b.1; body = s.0; changed = s.1 }
 
 -- ---- ops
 
-here-ops : (p : Op → ℕ → Type 0) (next n : ℕ) (callee : PlainLambda) → RegionOps p callee.body → (r s : RegionTree) → iln_here next n callee r ≡ Some s → RegionOps p r → RegionOps p s
+here-ops : (p : Op → ℕ → Type 0) (next n : ℕ) (callee : PlainLambda) → RegionOps p callee.body → (r s : RegionTree) → inline_here next n callee r ≡ Some s → RegionOps p r → RegionOps p s
 here-ops p next n callee k (region args nodes results) s e h =
     let at = inlined-at next n callee args nodes results s e in
     subst (λ t. RegionOps p t) (sym at.result)
     (region_spliced_ops p n (inlined next callee at.inputs) (region args nodes results)
     (region_redirected_ops p (args_to_inputs at.inputs) (region_numbered next callee.body) (numbered-ops p next callee.body k)) h)
 
-inlined-ops : (p : Op → ℕ → Type 0) (n : ℕ) (callee l : PlainLambda) → RegionOps p callee.body → RegionOps p l.body → RegionOps p (iln n callee l).body
-inlined-ops p n callee l k h = changed_ops p (iln_here l.next n callee) (λ r s e. here-ops p l.next n callee k r s e) l h
+inlined-ops : (p : Op → ℕ → Type 0) (n : ℕ) (callee l : PlainLambda) → RegionOps p callee.body → RegionOps p l.body → RegionOps p (lambda_inlined n callee l).body
+inlined-ops p n callee l k h = changed_ops p (inline_here l.next n callee) (λ r s e. here-ops p l.next n callee k r s e) l h
 
 -- ---- values
 
 spliced-resized : (values next n : ℕ) (callee : PlainLambda) → may_change_size values (nodes_values (nodes_in callee.body)) call_values ≡ true → (r s : RegionTree) →
-    iln_here next n callee r ≡ Some s → IsResized values r s
+    inline_here next n callee r ≡ Some s → IsResized values r s
 spliced-resized values next n callee may (region args nodes results) s e = by (region_numbered next callee.body) refl
   where
     by : (copy : RegionTree) → region_numbered next callee.body ≡ copy → IsResized values (region args nodes results) s
@@ -119,26 +119,26 @@ spliced-resized values next n callee may (region args nodes results) s e = by (r
 
 module _ (n : ℕ) (callee l : PlainLambda) (known : IsWellFormed callee) (well : IsWellFormed l) (can : Applies n callee l) where
   abbrev here : RegionTree → Option RegionTree
-  here = iln_here l.next n callee
+  here = inline_here l.next n callee
 
-  pub edited : IsEdited here l (iln n callee l)
+  pub edited : IsEdited here l (lambda_inlined n callee l)
   edited = record { number = refl; params = refl; objects = refl; body = refl }
 
-  pub iln-well-formed : IsWellFormed (iln n callee l)
-  iln-well-formed =
+  pub inline-well-formed : IsWellFormed (lambda_inlined n callee l)
+  inline-well-formed =
       ap (λ o. well_formed (record l { body = unwrap_or o l.body; next = l.next + node_count callee.body })) can.changed
       ∙ changed-fits n callee l known can.none well can.body can.changed
 
-  pub iln-is-no-larger : IsNoLarger (lambda_values l) (lambda_values (iln n callee l))
-  iln-is-no-larger = size.resized_lambdas_are_no_larger here l (λ r s e. spliced-resized (lambda_values l) l.next n callee can.size r s e)
+  pub inline-is-no-larger : IsNoLarger (lambda_values l) (lambda_values (lambda_inlined n callee l))
+  inline-is-no-larger = size.resized_lambdas_are_no_larger here l (λ r s e. spliced-resized (lambda_values l) l.next n callee can.size r s e)
 
   module _ (ls : List PlainLambda) (at : slice_get ls l.number ≡ Some l) (there : slice_get ls callee.number ≡ Some callee) where
     abbrev ks : List PlainLambda
-    ks = slice_set ls l.number (iln n callee l)
+    ks = slice_set ls l.number (lambda_inlined n callee l)
 
     same : LambdasSameBut (Replaces ls ks) ls ks
     same =
-        same-but ls ks n l.next l.number callee known can.none there (set-edited here l (iln n callee l) edited ls l.number at)
+        same-but ls ks n l.next l.number callee known can.none there (set-edited here l (lambda_inlined n callee l) edited ls l.number at)
         (λ m e. let is = same_Some l m (sym at ∙ e) in (subst (λ (j : PlainLambda). IsWellFormed j) is well, ap (λ (j : PlainLambda). j.next) (sym is)))
 
     pub stands-for : MayStandForAll ls ks
@@ -159,20 +159,20 @@ module _ (n : ℕ) (callee l : PlainLambda) (known : IsWellFormed callee) (well 
                 no_deeper = λ m. (2 * m + 2, (twice m).no_deeper);
               };
           complete = λ complete.
-              exchanged-complete ls l.number l (iln n callee l) at iln-well-formed refl refl complete
+              exchanged-complete ls l.number l (lambda_inlined n callee l) at inline-well-formed refl refl complete
               (inlined-ops (Calls ls) n callee l (complete.calls callee.number callee there) (complete.calls l.number l at));
           image = λ omega program.
-              exchanged-program ls l.number l (iln n callee l) at iln-well-formed refl refl omega program
+              exchanged-program ls l.number l (lambda_inlined n callee l) at inline-well-formed refl refl omega program
               (inlined-ops (Calls ls) n callee l (program.complete.calls callee.number callee there) (program.complete.calls l.number l at))
               (inlined-ops (NamesGlobal (length omega.deltas)) n callee l (program.named callee.number callee there) (program.named l.number l at));
         }
 
-pub iln_is_a_step : IlnIsAStep
-iln_is_a_step n callee l known well e =
+pub inline_is_a_step : InlineIsAStep
+inline_is_a_step n callee l known well e =
     let can = applies-parts n callee l e in
     record {
-      interface = edits_keep_interface (iln_here l.next n callee) l (iln n callee l) (edited n callee l known well can);
-      well_formed = iln-well-formed n callee l known well can;
-      values = iln-is-no-larger n callee l known well can;
+      interface = edits_keep_interface (inline_here l.next n callee) l (lambda_inlined n callee l) (edited n callee l known well can);
+      well_formed = inline-well-formed n callee l known well can;
+      values = inline-is-no-larger n callee l known well can;
       lists = λ ls at each. stands-for n callee l known well can ls at each.0;
     }

@@ -31,8 +31,8 @@ use Rattle.r_edit.specs.Numbering.{number_from, region_numbered}
 use Rattle.r_edit.proofs.lemmas.Numbering.{number_from-least, moved-ids}
 use Rattle.r_edit.proofs.lemmas.Fits.{copies_fit}
 use Rattle.r_edit.proofs.lemmas.Copies.{numbered_copies_mean_the_same}
-use Rattle.r_inline.specs.Rule.{inlined, iln_here}
-use Rattle.r_inline.specs.Laws.{IlnReplaces}
+use Rattle.r_inline.specs.Rule.{inlined, inline_here}
+use Rattle.r_inline.specs.Laws.{InlineReplaces}
 use Rattle.r_inline.proofs.Body.{IsBody, is-body, arguments-count}
 use Rattle.r_inline.proofs.Call.{inlined-at}
 
@@ -113,8 +113,8 @@ module _ (ls ks : List PlainLambda) (n : ℕ) (callee l : PlainLambda) (none : c
     by-body : (body : RegionTree) → callee.body ≡ body → Replaces ls ks whole (region_spliced n (region_redirected (args_to_inputs inputs) (region_numbered l.next body)) whole)
     by-body (region own nodes outs) e = replaces own nodes outs e
 
-pub iln_replaces : IlnReplaces
-iln_replaces ls ks n callee l (region args nodes results) s well none there part e =
+pub inline_replaces : InlineReplaces
+inline_replaces ls ks n callee l (region args nodes results) s well none there part e =
     let at = inlined-at l.next n callee args nodes results s e in
     let whole : nodes ≡ joined_nodes at.split.before (node_then (node n (Apply callee.number) at.inputs at.regions) at.split.after) =
     at.split.whole ∙ ap (λ x. joined_nodes at.split.before (node_then x at.split.after)) at.here in
@@ -126,8 +126,8 @@ iln_replaces ls ks n callee l (region args nodes results) s well none there part
 -- ---- lists of lambdas
 
 module _ (ls ks : List PlainLambda) (n next f : ℕ) (callee : PlainLambda) (well : IsWellFormed callee) (none : callee.objects ≡ []) (there : slice_get ls callee.number ≡ Some callee)
-    (edited : AreEditedAt (iln_here next n callee) f ls ks) (each : (l : PlainLambda) → slice_get ls f ≡ Some l → IsWellFormed l × (l.next ≡ next)) where
+    (edited : AreEditedAt (inline_here next n callee) f ls ks) (each : (l : PlainLambda) → slice_get ls f ≡ Some l → IsWellFormed l × (l.next ≡ next)) where
   pub same-but : LambdasSameBut (Replaces ls ks) ls ks
   same-but =
-      edits_replace ls ks (iln_here next n callee) f edited (λ l at. (each l at).0)
-      (λ l r s at part e. iln_replaces ls ks n callee l r s well none there part (ap (λ m. iln_here m n callee r) (each l at).1 ∙ e))
+      edits_replace ls ks (inline_here next n callee) f edited (λ l at. (each l at).0)
+      (λ l r s at part e. inline_replaces ls ks n callee l r s well none there part (ap (λ m. inline_here m n callee r) (each l at).1 ∙ e))

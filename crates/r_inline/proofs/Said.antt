@@ -19,8 +19,8 @@ use Rattle.g_mean.proofs.lemmas.Inside.{inputs-read}
 use Rattle.g_mean.proofs.lemmas.Splices.{known-among}
 use Rattle.r_edit.specs.Numbering.{node_count, region_numbered}
 use Rattle.r_inline.specs.Called.{called_by, called_at}
-use Rattle.r_inline.specs.Laws.{IlnIsAStep}
-use Rattle.r_inline.specs.Rule.{is_call, inlined, may_inline, applies, iln}
+use Rattle.r_inline.specs.Laws.{InlineIsAStep}
+use Rattle.r_inline.specs.Rule.{is_call, inlined, may_inline, applies, lambda_inlined}
 use Rattle.r_walk.specs.Context.{IsContext}
 use Rattle.r_walk.specs.Laws.{AreOutputsAmong, region_with, Becomes, IsSaid}
 use Rattle.r_walk.proofs.lemmas.Contexts.{whole_part}
@@ -112,7 +112,7 @@ module _ (callees : List PlainLambda) (all : AllByRecursion IsWellFormed callees
 
     changed-so : (inline_change callees).changed (id_of x) l ≡ now
     changed-so =
-        ap (λ o. unwrap_or (option_map (λ b. iln (id_of x) b l) o) l) (same ∙ is)
+        ap (λ o. unwrap_or (option_map (λ b. lambda_inlined (id_of x) b l) o) l) (same ∙ is)
         ∙ ap (λ o. record l { body = unwrap_or o l.body; next = l.next + node_count c.body }) (inlines l context args before x after results around well at c call)
 
     known-so : AreOutputsAmong (nodes_ids before ++ node_ids x ++ nodes_ids nodes) outs
@@ -149,17 +149,17 @@ module _ (callees : List PlainLambda) (all : AllByRecursion IsWellFormed callees
       by None e = ap is_some (same ∙ e)
       by (Some c) e = becomes-so c e
 
-module _ (step : IlnIsAStep) (callees : List PlainLambda) (all : AllByRecursion IsWellFormed callees) where
-  keeps-so : (l : PlainLambda) (n : ℕ) → IsWellFormed l → is_some (inlined_at callees n l) ≡ true → IsWellFormed (unwrap_or (option_map (λ c. iln n c l) (inlined_at callees n l)) l)
+module _ (step : InlineIsAStep) (callees : List PlainLambda) (all : AllByRecursion IsWellFormed callees) where
+  keeps-so : (l : PlainLambda) (n : ℕ) → IsWellFormed l → is_some (inlined_at callees n l) ≡ true → IsWellFormed (unwrap_or (option_map (λ c. lambda_inlined n c l) (inlined_at callees n l)) l)
   keeps-so l n well may = by (inlined_at callees n l) refl may
     where
-      by : (o : Option PlainLambda) → inlined_at callees n l ≡ o → is_some o ≡ true → IsWellFormed (unwrap_or (option_map (λ c. iln n c l) o) l)
+      by : (o : Option PlainLambda) → inlined_at callees n l ≡ o → is_some o ≡ true → IsWellFormed (unwrap_or (option_map (λ c. lambda_inlined n c l) o) l)
       by None e t = absurd cc
       by (Some c) e t =
           let found = is-found callees (λ b. applies l n b) (called_at n l) c e in
           (step n c l (well-one found.function callees c all found.number) well found.holds).well_formed
 
-pub inline_is_local : IlnIsAStep → InlineIsLocal
+pub inline_is_local : InlineIsAStep → InlineIsLocal
 inline_is_local step callees all = record {
   keeps = keeps-so step callees all;
   absent = λ l n h. not-there callees n l h;

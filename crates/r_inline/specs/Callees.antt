@@ -3,7 +3,7 @@ use Rattle.std.specs.Prelude.{ℕ, ◌==◌, List, [], ◌∷◌, Option, None, 
 use Rattle.r_rule.specs.declared.steps.Rule.TheVariants.{Inline}
 use Rattle.g_graph.specs.Plain.{PlainLambda}
 use Rattle.r_inline.specs.Called.{called_at}
-use Rattle.r_inline.specs.Rule.{applies, iln}
+use Rattle.r_inline.specs.Rule.{applies, lambda_inlined}
 use Rattle.r_sweep_def.specs.Swept.{Change}
 
 -- the first of these lambdas that has the number
@@ -20,5 +20,5 @@ abbrev pub inline_change : (callees : List PlainLambda) → Change
 inline_change callees = record {
   rule = Inline;
   applies = λ l n. is_some (inlined_at callees n l);
-  changed = λ n l. unwrap_or (option_map (λ c. iln n c l) (inlined_at callees n l)) l;
+  changed = λ n l. unwrap_or (option_map (λ c. lambda_inlined n c l) (inlined_at callees n l)) l;
 }

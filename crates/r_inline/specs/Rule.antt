@@ -39,8 +39,8 @@ abbrev pub inlined : (next : ℕ) → (callee : PlainLambda) → (inputs : List 
 inlined next callee inputs = region_redirected (args_to_inputs inputs) (region_numbered next callee.body)
 
 -- the region that holds the call, with the nodes of the copy in the place of the call
-abbrev pub iln_here : (next n : ℕ) → (callee : PlainLambda) → RegionTree → Option RegionTree
-iln_here next n callee r = option_map (λ inputs. region_spliced n (inlined next callee inputs) r) (call_at n callee r)
+abbrev pub inline_here : (next n : ℕ) → (callee : PlainLambda) → RegionTree → Option RegionTree
+inline_here next n callee r = option_map (λ inputs. region_spliced n (inlined next callee inputs) r) (call_at n callee r)
 
 -- ---- the condition
 
@@ -59,10 +59,10 @@ may_inline values next callee =
 
 -- whether the rule applies at a node, and the changed lambda
 abbrev pub applies : PlainLambda → ℕ → (callee : PlainLambda) → Bool
-applies l n callee = may_inline (lambda_values l) l.next callee && is_some (region_changed (iln_here l.next n callee) l.body)
+applies l n callee = may_inline (lambda_values l) l.next callee && is_some (region_changed (inline_here l.next n callee) l.body)
 
-abbrev pub iln : ℕ → (callee : PlainLambda) → PlainLambda → PlainLambda
-iln n callee l = record (lambda_changed (iln_here l.next n callee) l) { next = l.next + node_count callee.body }
+abbrev pub lambda_inlined : ℕ → (callee : PlainLambda) → PlainLambda → PlainLambda
+lambda_inlined n callee l = record (lambda_changed (inline_here l.next n callee) l) { next = l.next + node_count callee.body }
 
 -- what comes in the place of a node with this op and these inputs, in a lambda of so many values with this next number
 abbrev pub node_inlined : (values next : ℕ) → (callee : PlainLambda) → Op → (inputs : List Origin) → Option RegionTree

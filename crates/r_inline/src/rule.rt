@@ -6,7 +6,7 @@ ghost use Rattle.g_graph.specs.Replace.{region_redirected};
 ghost use Rattle.g_graph.specs.Splice.{args_to_inputs, region_spliced};
 ghost use Rattle.g_graph.specs.WellFormed.{IsWellFormed};
 ghost use Rattle.r_edit.specs.Steps.{MayStandFor};
-ghost use Rattle.r_inline.specs.Rule.{call_at, iln_here, may_inline, applies, iln};
+ghost use Rattle.r_inline.specs.Rule.{call_at, inline_here, may_inline, applies, lambda_inlined};
 
 use crate::inputs::call_at;
 use crate::room::{may_inline, values_that_decide};
@@ -34,7 +34,7 @@ pub fn applies(lambda: &Lambda, node: u32, callee: &Lambda) -> bool
 // Whether it applies in a lambda of so many values.
 fn applies_in(lambda: &Lambda, values: u64, node: u32, callee: &Lambda) -> bool
     ensures { result ≡ (may_inline values lambda.now.next callee.now &&
-        is_some (region_changed (iln_here lambda.now.next node callee.now) lambda.now.body)) }
+        is_some (region_changed (inline_here lambda.now.next node callee.now) lambda.now.body)) }
 {
     may_inline(values, lambda.next, callee)
         && can_change_lambda(
@@ -56,7 +56,7 @@ pub fn apply(alloc: Global, lambda: &mut Lambda, node: u32, callee: &Lambda) -> 
     requires well_formed { IsWellFormed lambda.old }
     requires callee { IsWellFormed callee.now }
     requires applies { IsTrue (applies lambda.old node callee.now) }
-    ensures ok { OnOk result (lambda.new ≡ iln node callee.now lambda.old) }
+    ensures ok { OnOk result (lambda.new ≡ lambda_inlined node callee.now lambda.old) }
     ensures step { OnOk result (MayStandFor (callee.now ∷ []) lambda.old lambda.new) }
     ensures err { OnErr result (lambda.new ≡ lambda.old) }
 {
@@ -123,7 +123,7 @@ struct Call<'a> {
 }
 
 impl CanChange for Call<'_> {
-    ghost changed = { λ c. iln_here c.next c.node c.callee.now };
+    ghost changed = { λ c. inline_here c.next c.node c.callee.now };
 
     fn can_change(&self, region: &Region) -> bool {
         call_at(region, self.node, self.callee).is_some()

@@ -7,5 +7,5 @@ ghost use Rattle.r_inline.specs.WalkLaws.{InlineIsLocal};
 pub fn inline_is_local()
     ensures { InlineIsLocal }
 {
-    crate::laws::iln_keeps_meaning();
+    crate::laws::inline_keeps_meaning();
 }

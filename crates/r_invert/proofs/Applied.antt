@@ -9,8 +9,8 @@ use Rattle.g_graph.specs.Program.{lambda_values}
 use Rattle.g_graph.specs.WellFormed.{IsWellFormed}
 use Rattle.r_edit.specs.Found.{region_found}
 use Rattle.r_invert.specs.Edit.{IsMade, loop_at, loop_part, placed_at, new_in}
-use Rattle.r_invert.specs.Rule.{ivt_here, body_inverted, applies, with_body, ivt}
-use Rattle.r_invert.proofs.Counted.{ivt-same, at-same}
+use Rattle.r_invert.specs.Rule.{invert_here, body_inverted, applies, with_body, lambda_inverted}
+use Rattle.r_invert.proofs.Counted.{invert-same, at-same}
 use Rattle.r_invert.proofs.Fits.{changed-next, body-sound}
 use Rattle.r_invert.proofs.Found.{found-made, found-some, placed-changes}
 
@@ -24,7 +24,7 @@ applies-finds v n l e a =
 -- the body that comes
 pub record Body (v n : ℕ) (l : PlainLambda) (part : RegionTree) : Type 0 where
   pub now : RegionTree
-  pub is : ivt n l ≡ with_body l now
+  pub is : lambda_inverted n l ≡ with_body l now
   pub made : lambda_changed (placed_at v l.next n part) l ≡ record l { body = now }
   pub room : l.next + new_in l.next (region_ids now) < 2 ^ 32
 
@@ -36,7 +36,7 @@ body-is v n l part e w f = by (region_found (loop_at v l.next n) l.body) refl f
     by None d g = absurd cc
     by (Some y) d g =
         let c = placed-changes v l.next n y part g l.body d in
-        let same : ivt_here v l.next n ≡ ivt_here (lambda_values l) l.next n = ap (λ u. ivt_here u l.next n) e ∙ ivt-same (lambda_values l) l.next n in
+        let same : invert_here v l.next n ≡ invert_here (lambda_values l) l.next n = ap (λ u. invert_here u l.next n) e ∙ invert-same (lambda_values l) l.next n in
         let changed : body_inverted n l ≡ Some c.0 = ap (λ h. region_changed h l.body) (sym same) ∙ c.1 in
         record {
           now = c.0;
@@ -55,5 +55,5 @@ module _ (v n : ℕ) (l : PlainLambda) (part : RegionTree) (b : Body v n l part)
   pub next-fits : m + new_in m (region_ids k.body) < 2 ^ 32
   next-fits = subst (λ t. t < 2 ^ 32) (sym next-is) b.room
 
-  pub ivt-is : (next : ℕ) → next ≡ m + new_in m (region_ids k.body) → record k { next = next } ≡ ivt n l
-  ivt-is next e = (λ i. record (now-is i) { next = next }) ∙ ap (λ t. record l { body = b.now; next = t }) (e ∙ next-is) ∙ sym b.is
+  pub invert-is : (next : ℕ) → next ≡ m + new_in m (region_ids k.body) → record k { next = next } ≡ lambda_inverted n l
+  invert-is next e = (λ i. record (now-is i) { next = next }) ∙ ap (λ t. record l { body = b.now; next = t }) (e ∙ next-is) ∙ sym b.is

@@ -13,7 +13,7 @@ use Rattle.g_graph.proofs.lemmas.Found.{found_node, node_at-joined}
 use Rattle.g_graph.proofs.lemmas.Splices.{Split, split_at}
 use Rattle.g_graph.proofs.lemmas.Unique.{same_number}
 use Rattle.r_edit.proofs.lemmas.Loops.{loop_node}
-use Rattle.r_invert.specs.Rule.{Parts, parts_of, inverted, may_invert, in_place, ivt_here}
+use Rattle.r_invert.specs.Rule.{Parts, parts_of, inverted, may_invert, in_place, invert_here}
 
 -- what comes in its place
 abbrev pub placed : (next : ℕ) → (inputs : List Origin) → Parts → RegionTree
@@ -54,7 +54,7 @@ pub record Inverts (values next n : ℕ) (args : List Kind) (nodes : NodeTrees) 
   pub may : may_invert values next body parts ≡ true
   pub result : s ≡ region_spliced n (placed next inputs parts) (region args nodes results)
 
-pub inverts-at : (values next n : ℕ) (args : List Kind) (nodes : NodeTrees) (results : List Origin) (s : RegionTree) → ivt_here values next n (region args nodes results) ≡ Some s →
+pub inverts-at : (values next n : ℕ) (args : List Kind) (nodes : NodeTrees) (results : List Origin) (s : RegionTree) → invert_here values next n (region args nodes results) ≡ Some s →
     Inverts values next n args nodes results s
 inverts-at values next n args nodes results s e = by (node_at n nodes) refl e
   where

@@ -10,7 +10,7 @@ use Rattle.g_graph.specs.Replace.{region_redirected}
 use Rattle.g_graph.specs.Splice.{args_to_inputs, region_spliced}
 use Rattle.r_edit.proofs.lemmas.Size.{saturated-decides}
 use Rattle.r_invert.specs.Edit.{only_may, regions_so, loop_at, loop_of, is_loop}
-use Rattle.r_invert.specs.Rule.{Parts, parts_of, can_count, may_invert, inverted, in_place, ivt_here, new_nodes, growth, loop_values}
+use Rattle.r_invert.specs.Rule.{Parts, parts_of, can_count, may_invert, inverted, in_place, invert_here, new_nodes, growth, loop_values}
 
 pub only_one : (values next : ℕ) (rs : List RegionTree) → length rs ≢ 1 → only_may values next (regions_of rs) ≡ false
 only_one values next [] e = refl
@@ -45,7 +45,7 @@ found-changes values next (node id Theta inputs no_regions) = refl
 found-changes values next (node id Theta inputs (region_then r (region_then t rs))) = refl
 found-changes values next (node id _ inputs rs) = refl
 
-pub here_found : (values next n : ℕ) (r : RegionTree) → is_some (loop_at values next n r) ≡ is_some (ivt_here values next n r)
+pub here_found : (values next n : ℕ) (r : RegionTree) → is_some (loop_at values next n r) ≡ is_some (invert_here values next n r)
 here_found values next n (region args nodes results) = by (node_at n nodes)
   where
     spliced : RegionTree → RegionTree
@@ -72,10 +72,10 @@ place-same v next (node id Theta inputs no_regions) = refl
 place-same v next (node id Theta inputs (region_then r (region_then t rs))) = refl
 place-same v next (node id _ inputs rs) = refl
 
-pub ivt-same : (v next n : ℕ) → ivt_here (saturated v) next n ≡ ivt_here v next n
-ivt-same v next n = fun_ext (λ r. by r)
+pub invert-same : (v next n : ℕ) → invert_here (saturated v) next n ≡ invert_here v next n
+invert-same v next n = fun_ext (λ r. by r)
   where
-    by : (r : RegionTree) → ivt_here (saturated v) next n r ≡ ivt_here v next n r
+    by : (r : RegionTree) → invert_here (saturated v) next n r ≡ invert_here v next n r
     by (region args nodes results) =
         ap (λ f. option_map (λ part. region_spliced n part (region args nodes results)) (option_and_then f (node_at n nodes))) (fun_ext (λ x. place-same v next x))
 

@@ -14,7 +14,7 @@ use Rattle.g_graph.specs.Program.{lambda_values}
 use Rattle.g_graph.specs.WellFormed.{well_formed}
 use Rattle.g_mean.specs.Data.{Datum, val, memory, input}
 use Rattle.g_mean.specs.Meaning.{Context, region_meaning}
-use Rattle.r_invert.specs.Rule.{may_invert, parts_of, applies, ivt}
+use Rattle.r_invert.specs.Rule.{may_invert, parts_of, applies, lambda_inverted}
 
 abbrev plain : ℕ → Op → List Origin → NodeTree
 plain id op inputs = node id op inputs no_regions
@@ -76,7 +76,7 @@ row_loop = region three (nodes_of row_nodes) all_results
 abbrev row : PlainLambda
 row = loop_of row_nodes all_results
 
-row_inverted : ivt 1 row
+row_inverted : lambda_inverted 1 row
     ≡ main_with 23
     (testing 12 (Out 0 0)
     ++ node 14 Gamma (Out 13 0 ∷ Out 0 0 ∷ Arg 0 ∷ Arg 1 ∷ [])
@@ -93,14 +93,14 @@ row_inverted = refl
 applies_once : (applies row 1 ≡ true) × (applies row 0 ≡ false) × (applies row 4 ≡ false) × (applies row 7 ≡ false) × (applies row 12 ≡ false)
 applies_once = (refl, refl, refl, refl, refl)
 
-both_fit : (well_formed row ≡ true) × (well_formed (ivt 1 row) ≡ true)
+both_fit : (well_formed row ≡ true) × (well_formed (lambda_inverted 1 row) ≡ true)
 both_fit = (refl, refl)
 
-before_after : (lambda_values row ≡ 53) × (lambda_values (ivt 1 row) ≡ 56)
+before_after : (lambda_values row ≡ 53) × (lambda_values (lambda_inverted 1 row) ≡ 56)
 before_after = (refl, refl)
 
 -- the loop that comes does not have the form
-not_twice : (applies (ivt 1 row) 16 ≡ false) × (applies (ivt 1 row) 14 ≡ false)
+not_twice : (applies (lambda_inverted 1 row) 16 ≡ false) × (applies (lambda_inverted 1 row) 14 ≡ false)
 not_twice = (refl, refl)
 
 -- ---- other forms
@@ -184,7 +184,7 @@ echoing =
     (regions_of (region three (nodes_of (plain 5 (Const 0) [] ∷ plain 9 Put (Arg 0 ∷ Arg 2 ∷ []) ∷ [])) (Out 5 0 ∷ Arg 0 ∷ Arg 1 ∷ Out 9 0 ∷ []) ∷ going ∷ [])) ∷ [])
     all_results
 
-states_kept : (well_formed echoing ≡ true) × (applies echoing 1 ≡ true) × (well_formed (ivt 1 echoing) ≡ true)
+states_kept : (well_formed echoing ≡ true) × (applies echoing 1 ≡ true) × (well_formed (lambda_inverted 1 echoing) ≡ true)
 states_kept = (refl, refl, refl)
 
 -- ---- the limits
@@ -208,6 +208,6 @@ ended = Returned (val (Num 3) ∷ memory [] ∷ input [] ∷ []) []
 runs :
     (region_meaning (within 4) row.body (memory [] ∷ input [] ∷ []) ≡ ended)
     × (region_meaning (within 3) row.body (memory [] ∷ input [] ∷ []) ≡ Cut [])
-    × (region_meaning (within 3) (ivt 1 row).body (memory [] ∷ input [] ∷ []) ≡ ended)
-    × (region_meaning (within 2) (ivt 1 row).body (memory [] ∷ input [] ∷ []) ≡ Cut [])
+    × (region_meaning (within 3) (lambda_inverted 1 row).body (memory [] ∷ input [] ∷ []) ≡ ended)
+    × (region_meaning (within 2) (lambda_inverted 1 row).body (memory [] ∷ input [] ∷ []) ≡ Cut [])
 runs = (refl, refl, refl, refl)

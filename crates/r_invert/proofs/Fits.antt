@@ -30,7 +30,7 @@ use Rattle.r_edit.proofs.lemmas.Loops.{loop_node}
 use Rattle.r_edit.proofs.lemmas.Numbers.{below}
 use Rattle.r_invert.specs.Laws.{IsLoopRegion}
 use Rattle.r_edit.specs.Size.{may_change_size}
-use Rattle.r_invert.specs.Rule.{inverted, new_nodes, growth, loop_values, can_count, ivt_here, with_body}
+use Rattle.r_invert.specs.Rule.{inverted, new_nodes, growth, loop_values, can_count, invert_here, with_body}
 use Rattle.r_invert.proofs.At.{Inverts, inverts-at}
 use Rattle.r_invert.proofs.First.{loop-says}
 use Rattle.r_invert.proofs.PartsFit.{NodeSays}
@@ -232,7 +232,7 @@ pub record Kept (objects next : ℕ) (r s : RegionTree) : Type 0 where
   pub ids : Renewed next count (region_ids r) (region_ids s)
   pub room : next + count < 2 ^ 32
 
-here-keeps : (objects values next n : ℕ) (r s : RegionTree) → ivt_here values next n r ≡ Some s → every_region (region_fits objects) r ≡ true → Numbered next (region_ids r) → Kept objects next r s
+here-keeps : (objects values next n : ℕ) (r s : RegionTree) → invert_here values next n r ≡ Some s → every_region (region_fits objects) r ≡ true → Numbered next (region_ids r) → Kept objects next r s
 here-keeps objects values next n (region args nodes results) s e fits numbers =
     let at = inverts-at values next n args nodes results s e in
     by at (inverted next at.parts) refl
@@ -259,10 +259,10 @@ here-keeps objects values next n (region args nodes results) s e fits numbers =
 
 -- ---- the lambda
 
-pub changed-fits : (values n : ℕ) (l : PlainLambda) → IsWellFormed l → (s : RegionTree) → region_changed (ivt_here values l.next n) l.body ≡ Some s → well_formed (with_body l s) ≡ true
+pub changed-fits : (values n : ℕ) (l : PlainLambda) → IsWellFormed l → (s : RegionTree) → region_changed (invert_here values l.next n) l.body ≡ Some s → well_formed (with_body l s) ≡ true
 changed-fits values n l w s e =
     let objects = length l.objects in
-    let f = ivt_here values l.next n in
+    let f = invert_here values l.next n in
     let nest = every_region (region_fits objects) l.body in
     let front = (and_parts (body_fits l && numbers_fit l && nest) (all_of (λ o. leaves_fit o.size 0 o.leaves) l.objects) w).0 in
     let inner = and_parts (body_fits l && numbers_fit l) nest front in
@@ -287,11 +287,11 @@ changed-fits values n l w s e =
     e w (λ i. unique i && below i)
 
 -- there are numbers for what comes
-pub changed-next : (values n : ℕ) (l : PlainLambda) → IsWellFormed l → (s : RegionTree) → region_changed (ivt_here values l.next n) l.body ≡ Some s →
+pub changed-next : (values n : ℕ) (l : PlainLambda) → IsWellFormed l → (s : RegionTree) → region_changed (invert_here values l.next n) l.body ≡ Some s →
     l.next + count_by (λ m. nat_le l.next m) (region_ids s) < 2 ^ 32
 changed-next values n l w s e =
     let objects = length l.objects in
-    let f = ivt_here values l.next n in
+    let f = invert_here values l.next n in
     let nest = every_region (region_fits objects) l.body in
     let front = (and_parts (body_fits l && numbers_fit l && nest) (all_of (λ o. leaves_fit o.size 0 o.leaves) l.objects) w).0 in
     let inner = and_parts (body_fits l && numbers_fit l) nest front in

@@ -24,7 +24,7 @@ use Rattle.r_edit.proofs.lemmas.Found.{Agree, Only, both-change, found-where-cha
 use Rattle.r_edit.proofs.lemmas.Loops.{loop_node}
 use Rattle.r_invert.specs.Edit.{CanMake, IsMade, is_loop, loop_of, loop_at, loop_part, placed_at}
 use Rattle.r_invert.specs.Laws.{IsLoopRegion}
-use Rattle.r_invert.specs.Rule.{Parts, parts_of, inverted, new_nodes, growth, loop_values, may_invert, in_place, ivt_here}
+use Rattle.r_invert.specs.Rule.{Parts, parts_of, inverted, new_nodes, growth, loop_values, may_invert, in_place, invert_here}
 use Rattle.r_invert.proofs.Counted.{found-changes, here_found}
 use Rattle.r_invert.proofs.First.{loop-says}
 use Rattle.r_invert.proofs.Replaced.{loop-region}
@@ -171,7 +171,7 @@ place-known values next x part e is =
     ∙ ap (λ z. Some (region_redirected (args_to_inputs (inputs_in z)) part)) (sym loop.is)
 
 module _ (values next n : ℕ) (y : NodeTree) (part : RegionTree) (is : loop_part next y ≡ Some part) where
-  base : (t : RegionTree) → Only y (loop_at values next n t) → Agree (loop_at values next n t) (ivt_here values next n t) (placed_at values next n part t)
+  base : (t : RegionTree) → Only y (loop_at values next n t) → Agree (loop_at values next n t) (invert_here values next n t) (placed_at values next n part t)
   base (region args nodes results) only = by (node_at n nodes) only
     where
       spliced : RegionTree → RegionTree
@@ -194,9 +194,9 @@ module _ (values next n : ℕ) (y : NodeTree) (part : RegionTree) (is : loop_par
       by (Some x) only = test x (is_loop values next x) refl only
 
   pub placed-changes : (r : RegionTree) → region_found (loop_at values next n) r ≡ Some y →
-      (s : RegionTree) × (region_changed (ivt_here values next n) r ≡ Some s) × (region_changed (placed_at values next n part) r ≡ Some s)
-  placed-changes r e = both-change (loop_at values next n) (ivt_here values next n) (placed_at values next n part) y base r e
+      (s : RegionTree) × (region_changed (invert_here values next n) r ≡ Some s) × (region_changed (placed_at values next n part) r ≡ Some s)
+  placed-changes r e = both-change (loop_at values next n) (invert_here values next n) (placed_at values next n part) y base r e
 
 -- where the rule applies something is found
-pub found-some : (values next n : ℕ) (r : RegionTree) → is_some (region_changed (ivt_here values next n) r) ≡ true → is_some (region_found (loop_at values next n) r) ≡ true
-found-some values next n r e = found-where-changed (loop_at values next n) (ivt_here values next n) (here_found values next n) r e
+pub found-some : (values next n : ℕ) (r : RegionTree) → is_some (region_changed (invert_here values next n) r) ≡ true → is_some (region_found (loop_at values next n) r) ≡ true
+found-some values next n r e = found-where-changed (loop_at values next n) (invert_here values next n) (here_found values next n) r e

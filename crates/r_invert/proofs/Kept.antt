@@ -25,12 +25,12 @@ use Rattle.r_edit.proofs.lemmas.Copies.{numbered-ops}
 use Rattle.r_edit.proofs.lemmas.Fits.{copied-nodes-values, copies_count_the_same}
 use Rattle.r_edit.proofs.lemmas.Loops.{loop_node}
 use Rattle.r_invert.specs.Compose.{in_sequence, alone}
-use Rattle.r_invert.specs.Laws.{IvtIsAStep}
-use Rattle.r_invert.specs.Rule.{Parts, parts_of, giving, turn, remaining, choice, inverted, new_nodes, growth, loop_values, can_count, ivt_here, body_inverted, with_body, ivt}
+use Rattle.r_invert.specs.Laws.{InvertIsAStep}
+use Rattle.r_invert.specs.Rule.{Parts, parts_of, giving, turn, remaining, choice, inverted, new_nodes, growth, loop_values, can_count, invert_here, body_inverted, with_body, lambda_inverted}
 use Rattle.r_invert.proofs.At.{placed, inverts-at}
 use Rattle.r_invert.proofs.Fits.{changed-fits}
 use Rattle.r_invert.proofs.Forms.{ending, form-of}
-use Rattle.r_invert.proofs.Replaced.{ivt_replaces}
+use Rattle.r_invert.proofs.Replaced.{invert_replaces}
 
 -- ---- ops
 
@@ -74,7 +74,7 @@ module _ (p : Op → ℕ → Type 0) (gamma : (m : ℕ) → p Gamma m) (theta : 
           sequence-ops (alone first Theta (args_of parts.go) (length (args_of parts.go)) (region_then (turn (suc first) parts) no_regions)) (region_numbered last parts.stop)
           ((theta _, (turn-ops (suc first), tt)), tt) (numbered-ops p last parts.stop h.stop)
 
-  here-ops : (values next n : ℕ) (r s : RegionTree) → ivt_here values next n r ≡ Some s → RegionOps p r → RegionOps p s
+  here-ops : (values next n : ℕ) (r s : RegionTree) → invert_here values next n r ≡ Some s → RegionOps p r → RegionOps p s
   here-ops values next n (region args nodes results) s e h =
       let at = inverts-at values next n args nodes results s e in
       let own = found_ops p n nodes (loop_node n at.inputs at.body) at.found h in
@@ -167,7 +167,7 @@ module _ (p : Parts) where
         turn-values (suc second),
       )
 
-here-resized : (values next n : ℕ) (r s : RegionTree) → ivt_here values next n r ≡ Some s → IsResized values r s
+here-resized : (values next n : ℕ) (r s : RegionTree) → invert_here values next n r ≡ Some s → IsResized values r s
 here-resized values next n (region args nodes results) s e =
     let at = inverts-at values next n args nodes results s e in
     by (inverted next at.parts) refl
@@ -204,25 +204,25 @@ here-resized values next n (region args nodes results) s e =
 
 -- ---- the lambda
 
-edited : (n : ℕ) (l : PlainLambda) → IsEdited (ivt_here (lambda_values l) l.next n) l (ivt n l)
+edited : (n : ℕ) (l : PlainLambda) → IsEdited (invert_here (lambda_values l) l.next n) l (lambda_inverted n l)
 edited n l = by (body_inverted n l) refl
   where
-    by : (found : Option RegionTree) → body_inverted n l ≡ found → IsEdited (ivt_here (lambda_values l) l.next n) l (unwrap_or (option_map (with_body l) found) l)
+    by : (found : Option RegionTree) → body_inverted n l ≡ found → IsEdited (invert_here (lambda_values l) l.next n) l (unwrap_or (option_map (with_body l) found) l)
     by None e = record { number = refl; params = refl; objects = refl; body = ap (λ o. unwrap_or o l.body) (sym e) }
     by (Some s) e = record { number = refl; params = refl; objects = refl; body = ap (λ o. unwrap_or o l.body) (sym e) }
 
-pub ivt_well_formed : (n : ℕ) (l : PlainLambda) → IsWellFormed l → IsWellFormed (ivt n l)
-ivt_well_formed n l w = by (body_inverted n l) refl
+pub invert_well_formed : (n : ℕ) (l : PlainLambda) → IsWellFormed l → IsWellFormed (lambda_inverted n l)
+invert_well_formed n l w = by (body_inverted n l) refl
   where
     by : (found : Option RegionTree) → body_inverted n l ≡ found → well_formed (unwrap_or (option_map (with_body l) found) l) ≡ true
     by None e = w
     by (Some s) e = changed-fits (lambda_values l) n l w s e
 
-pub ivt_is_a_step : IvtIsAStep
-ivt_is_a_step held n l well =
-    safe_changes_are_steps (ivt_here (lambda_values l) l.next n) l (ivt n l) well (ivt_well_formed n l well) (edited n l)
+pub invert_is_a_step : InvertIsAStep
+invert_is_a_step held n l well =
+    safe_changes_are_steps (invert_here (lambda_values l) l.next n) l (lambda_inverted n l) well (invert_well_formed n l well) (edited n l)
     (record {
-      replaces = λ ls ks r s part e. ivt_replaces ls ks (lambda_values l) n l r s part e;
+      replaces = λ ls ks r s part e. invert_replaces ls ks (lambda_values l) n l r s part e;
       calls = λ ls r s e h. here-ops (Calls ls) (λ m. tt) (λ m. tt) (lambda_values l) l.next n r s e h;
       names = λ globals r s e h. here-ops (NamesGlobal globals) (λ m. tt) (λ m. tt) (lambda_values l) l.next n r s e h;
       resized = λ r s e. here-resized (lambda_values l) l.next n r s e;

@@ -33,7 +33,7 @@ use Rattle.g_mean.proofs.lemmas.Splices.{joined-read, spliced_regions_refine}
 use Rattle.r_edit.proofs.lemmas.AddedFit.{fits-parts}
 use Rattle.r_edit.proofs.lemmas.Loops.{loop_node}
 use Rattle.r_edit.proofs.lemmas.Numbers.{below, among-whole}
-use Rattle.r_invert.specs.Laws.{IsLoopRegion, AreTurnsInverted, IvtReplaces}
+use Rattle.r_invert.specs.Laws.{IsLoopRegion, AreTurnsInverted, InvertReplaces}
 use Rattle.r_invert.specs.Rule.{Parts, parts_of, takes_both_states, inverted, new_nodes}
 use Rattle.r_invert.proofs.At.{placed, inverts-at}
 use Rattle.r_invert.proofs.First.{LoopSays, loop-says, inverted_loops_refine}
@@ -144,8 +144,8 @@ module _ (ls ks : List PlainLambda) (n : ℕ) (l : PlainLambda) (args : List Kin
     replaces : (r : RegionTree) → inverted l.next p ≡ r → Replaces ls ks whole (region_spliced n (placed l.next inputs p) whole)
     replaces (region own ns gets) is = replaces-with own ns gets is
 
-pub ivt_replaces : IvtReplaces
-ivt_replaces ls ks values n l (region args nodes results) s part e =
+pub invert_replaces : InvertReplaces
+invert_replaces ls ks values n l (region args nodes results) s part e =
     let at = inverts-at values l.next n args nodes results s e in
     let whole : nodes ≡ joined_nodes at.split.before (node_then (loop_node n at.inputs at.body) at.split.after) =
     at.split.whole ∙ ap (λ x. joined_nodes at.split.before (node_then x at.split.after)) at.here in

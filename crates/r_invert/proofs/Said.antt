@@ -13,7 +13,7 @@ use Rattle.g_graph.proofs.lemmas.Splices.{nodes_ids-joined}
 use Rattle.g_mean.specs.Copies.{IsAmong}
 use Rattle.g_mean.proofs.lemmas.Copies.{among-right}
 use Rattle.r_edit.specs.Numbering.{node_count}
-use Rattle.r_invert.specs.Rule.{in_place, ivt_here, body_inverted, applies, with_body, ivt}
+use Rattle.r_invert.specs.Rule.{in_place, invert_here, body_inverted, applies, with_body, lambda_inverted}
 use Rattle.r_walk.specs.Context.{ChangesOnlyAt, IsContext}
 use Rattle.r_walk.specs.Laws.{region_with, Becomes, IsSaid}
 use Rattle.r_walk.proofs.lemmas.Contexts.{whole_part}
@@ -24,12 +24,12 @@ use Rattle.r_invert.specs.WalkLaws.{invert_change, InvertIsLocal}
 use Rattle.r_invert.proofs.NewNumbers.{new_in, new_within}
 use Rattle.r_invert.proofs.Inverted.{IsNew, is_new}
 
-only-there : (values next n : ℕ) → ChangesOnlyAt n (ivt_here values next n)
+only-there : (values next n : ℕ) → ChangesOnlyAt n (invert_here values next n)
 only-there values next n (region args nodes results) e =
     ap (λ o. option_map (λ part. region_spliced n part (region args nodes results)) (option_and_then (in_place values next) o)) (not_found n nodes e)
 
 not-there : (l : PlainLambda) (n : ℕ) → (IsAmong n (region_ids l.body) → ⊥) → applies l n ≡ false
-not-there l n h = ap is_some (absent l n (ivt_here (lambda_values l) l.next n) (only-there (lambda_values l) l.next n) h)
+not-there l n h = ap is_some (absent l n (invert_here (lambda_values l) l.next n) (only-there (lambda_values l) l.next n) h)
 
 module _ (l : PlainLambda) (context : RegionTree → RegionTree) (args : List Kind) (before : NodeTrees) (x : NodeTree) (after : NodeTrees) (results : List Origin) (around : IsContext context)
     (well : IsWellFormed l) (at : l.body ≡ context (region args (joined_nodes before (node_then x after)) results)) where
@@ -39,13 +39,13 @@ module _ (l : PlainLambda) (context : RegionTree → RegionTree) (args : List Ki
   first : has_node (id_of x) before ≡ false
   first = not_before l context args before x after results around well at
 
-  here-is : ivt_here (lambda_values l) l.next (id_of x) here ≡ option_map (λ part. region_spliced (id_of x) part here) (in_place (lambda_values l) l.next x)
+  here-is : invert_here (lambda_values l) l.next (id_of x) here ≡ option_map (λ part. region_spliced (id_of x) part here) (in_place (lambda_values l) l.next x)
   here-is = ap (λ o. option_map (λ part. region_spliced (id_of x) part here) (option_and_then (in_place (lambda_values l) l.next) o)) (found_here args before x after results first)
 
   stays-so : in_place (lambda_values l) l.next x ≡ None → applies l (id_of x) ≡ false
   stays-so e =
       ap is_some
-      (unchanged_at l context args before x after results around well at (ivt_here (lambda_values l) l.next (id_of x)) (only-there (lambda_values l) l.next (id_of x))
+      (unchanged_at l context args before x after results around well at (invert_here (lambda_values l) l.next (id_of x)) (only-there (lambda_values l) l.next (id_of x))
       (here-is ∙ ap (option_map (λ part. region_spliced (id_of x) part here)) e))
 
   module _ (r : RegionTree) (is : in_place (lambda_values l) l.next x ≡ Some r) where
@@ -60,7 +60,7 @@ module _ (l : PlainLambda) (context : RegionTree → RegionTree) (args : List Ki
 
     body-is : body_inverted (id_of x) l ≡ Some body
     body-is =
-        changed_at l context args before x after results around well at (ivt_here (lambda_values l) l.next (id_of x)) (only-there (lambda_values l) l.next (id_of x))
+        changed_at l context args before x after results around well at (invert_here (lambda_values l) l.next (id_of x)) (only-there (lambda_values l) l.next (id_of x))
         (region_with args before (id_of x) (nodes_in r) (results_of r) after results)
         (here-is ∙ ap (option_map (λ part. region_spliced (id_of x) part here)) is ∙ ap Some (replaced_at args before x after results first r))
 
@@ -74,13 +74,13 @@ module _ (l : PlainLambda) (context : RegionTree → RegionTree) (args : List Ki
         (λ n h. below_one l.next n (region_ids l.body) (whole_part l well).below (subst (IsAmong n) (sym old-ids) h)) new.numbers
         ∙ ap length (ids_in r)
 
-    changed-so : ivt (id_of x) l ≡ now
+    changed-so : lambda_inverted (id_of x) l ≡ now
     changed-so = ap (λ o. unwrap_or (option_map (with_body l) o) l) body-is ∙ ap (λ k. record l { body = body; next = l.next + k }) taken
 
     not-old : (n : ℕ) → n < l.next → IsAmong n (nodes_ids (nodes_in r)) → ⊥
     not-old n less h = absurd (omega (arith, new.numbers n h))
 
-    inert-so : (n : ℕ) → IsAmong n (regions_ids (regions_in x)) → applies (ivt (id_of x) l) n ≡ false
+    inert-so : (n : ℕ) → IsAmong n (regions_ids (regions_in x)) → applies (lambda_inverted (id_of x) l) n ≡ false
     inert-so n within =
         let inside = inside_it l context args before x after results around well at n within in
         let less = below_next l context args before x after results around well at n inside in
@@ -103,7 +103,7 @@ module _ (l : PlainLambda) (context : RegionTree → RegionTree) (args : List Ki
       by None e = stays-so e
       by (Some r) e = becomes-so r e
 
-pub invert_is_local : ((n : ℕ) (l : PlainLambda) → IsWellFormed l → IsWellFormed (ivt n l)) → InvertIsLocal
+pub invert_is_local : ((n : ℕ) (l : PlainLambda) → IsWellFormed l → IsWellFormed (lambda_inverted n l)) → InvertIsLocal
 invert_is_local keeps = record {
   keeps = λ l n well may. keeps n l well;
   absent = not-there;

@@ -14,7 +14,7 @@ use Rattle.g_mean.specs.Refining.{ContextRefines}
 use Rattle.g_mean.specs.Edits.{IsPartOf}
 use Rattle.g_mean.specs.Replacement.{Replaces}
 use Rattle.r_edit.specs.Steps.{MayStandFor}
-use Rattle.r_invert.specs.Rule.{Parts, parts_of, inverted, takes_both_states, ivt_here, ivt}
+use Rattle.r_invert.specs.Rule.{Parts, parts_of, inverted, takes_both_states, invert_here, lambda_inverted}
 
 -- ---- turns
 
@@ -54,10 +54,10 @@ InvertedLoopsRefine =
 -- ---- regions and lambdas
 
 -- a changed region of a well-formed lambda may replace the old one, in any lambdas
-abbrev pub IvtReplaces : Type 0
-IvtReplaces =
-    (ls ks : List PlainLambda) (values n : ℕ) (l : PlainLambda) (r s : RegionTree) → IsPartOf l r → ivt_here values l.next n r ≡ Some s → Replaces ls ks r s
+abbrev pub InvertReplaces : Type 0
+InvertReplaces =
+    (ls ks : List PlainLambda) (values n : ℕ) (l : PlainLambda) (r s : RegionTree) → IsPartOf l r → invert_here values l.next n r ≡ Some s → Replaces ls ks r s
 
 -- The rule is a step: the lambda stays well formed, may stand for the old one in any list, and is no larger or small.
-abbrev pub IvtIsAStep : Type 0
-IvtIsAStep = (held : List PlainLambda) (n : ℕ) (l : PlainLambda) → IsWellFormed l → MayStandFor held l (ivt n l)
+abbrev pub InvertIsAStep : Type 0
+InvertIsAStep = (held : List PlainLambda) (n : ℕ) (l : PlainLambda) → IsWellFormed l → MayStandFor held l (lambda_inverted n l)

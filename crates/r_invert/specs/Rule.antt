@@ -131,13 +131,13 @@ in_place values next (node id Theta inputs (region_then r no_regions)) =
 in_place values next x = None
 
 -- the region that holds the Theta of number n
-abbrev pub ivt_here : (values next n : ℕ) → RegionTree → Option RegionTree
-ivt_here values next n (region args nodes results) =
+abbrev pub invert_here : (values next n : ℕ) → RegionTree → Option RegionTree
+invert_here values next n (region args nodes results) =
     option_map (λ part. region_spliced n part (region args nodes results)) (option_and_then (in_place values next) (node_at n nodes))
 
 -- the body changed so, where it can be
 abbrev pub body_inverted : ℕ → PlainLambda → Option RegionTree
-body_inverted n l = region_changed (ivt_here (lambda_values l) l.next n) l.body
+body_inverted n l = region_changed (invert_here (lambda_values l) l.next n) l.body
 
 -- whether the rule applies at a node
 abbrev pub applies : PlainLambda → ℕ → Bool
@@ -148,5 +148,5 @@ abbrev pub with_body : PlainLambda → RegionTree → PlainLambda
 with_body l body = record l { body = body; next = l.next + count_by (λ m. nat_le l.next m) (region_ids body) }
 
 -- the changed lambda
-abbrev pub ivt : ℕ → PlainLambda → PlainLambda
-ivt n l = unwrap_or (option_map (with_body l) (body_inverted n l)) l
+abbrev pub lambda_inverted : ℕ → PlainLambda → PlainLambda
+lambda_inverted n l = unwrap_or (option_map (with_body l) (body_inverted n l)) l

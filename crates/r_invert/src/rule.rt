@@ -9,7 +9,7 @@ ghost use Rattle.g_graph.specs.Plain.{PlainLambda};
 ghost use Rattle.g_graph.specs.WellFormed.{IsWellFormed};
 ghost use Rattle.r_edit.specs.Steps.{MayStandFor};
 ghost use Rattle.r_invert.specs.Edit.{placed_at, new_in};
-ghost use Rattle.r_invert.specs.Rule.{ivt_here, applies, ivt};
+ghost use Rattle.r_invert.specs.Rule.{invert_here, applies, lambda_inverted};
 
 use crate::find::{loop_at, new_left};
 use crate::part::part_of;
@@ -35,7 +35,7 @@ pub fn applies(lambda: &Lambda, node: u32) -> bool
 // Whether it applies in a lambda of so many values.
 fn applies_in(lambda: &Lambda, values: u64, node: u32) -> bool
     ensures { result ≡
-        is_some (region_changed (ivt_here values lambda.now.next node) lambda.now.body) }
+        is_some (region_changed (invert_here values lambda.now.next node) lambda.now.body) }
 {
     can_change_lambda(
         lambda,
@@ -54,7 +54,7 @@ fn applies_in(lambda: &Lambda, values: u64, node: u32) -> bool
 pub fn apply(alloc: Global, lambda: &mut Lambda, node: u32) -> Result<(), NoMemory>
     requires well_formed { IsWellFormed lambda.old }
     requires applies { IsTrue (applies lambda.old node) }
-    ensures ok { OnOk result (lambda.new ≡ ivt node lambda.old) }
+    ensures ok { OnOk result (lambda.new ≡ lambda_inverted node lambda.old) }
     ensures step { OnOk result ((held : List PlainLambda) →
         MayStandFor held lambda.old lambda.new) }
     ensures err { OnErr result (lambda.new ≡ lambda.old) }
@@ -93,7 +93,7 @@ struct Inverted {
 }
 
 impl CanChange for Inverted {
-    ghost changed = { λ c. ivt_here c.values c.next c.node };
+    ghost changed = { λ c. invert_here c.values c.next c.node };
 
     fn can_change(&self, region: &Region) -> bool {
         can_invert(region, self.values, self.next, self.node)
@@ -102,7 +102,7 @@ impl CanChange for Inverted {
 
 #[tactic(auto, using(crate::proofs::Counted::here_found))]
 fn can_invert(region: &Region, values: u64, next: u32, node: u32) -> bool
-    ensures { result ≡ is_some (ivt_here values next node region.now) }
+    ensures { result ≡ is_some (invert_here values next node region.now) }
 {
     loop_at(region, values, next, node).is_some()
 }

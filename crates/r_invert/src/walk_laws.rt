@@ -7,5 +7,5 @@ ghost use Rattle.r_invert.specs.WalkLaws.{InvertIsLocal};
 pub fn invert_is_local()
     ensures { InvertIsLocal }
 {
-    crate::laws::ivt_keeps_meaning();
+    crate::laws::invert_keeps_meaning();
 }

@@ -10,7 +10,7 @@ use Rattle.g_graph.specs.declared.op.Origin.TheVariants.{Arg, Out}
 use Rattle.g_graph.specs.Plain.{RegionTree, region, NodeTree, node, no_regions, nodes_of, regions_of, PlainLambda}
 use Rattle.g_graph.specs.Program.{lambda_values}
 use Rattle.g_graph.specs.WellFormed.{well_formed}
-use Rattle.r_pull.specs.Rule.{copies_here, applies, pll}
+use Rattle.r_pull.specs.Rule.{copies_here, applies, lambda_pulled}
 
 abbrev plain : ℕ → Op → List Origin → NodeTree
 plain id op inputs = node id op inputs no_regions
@@ -47,13 +47,13 @@ moved =
     ∷ region (Value ∷ Memory ∷ Io ∷ Value ∷ []) (nodes_of (plain 11 (Const 7) [] ∷ plain 9 (Bin Mul) (Arg 3 ∷ Out 11 0 ∷ []) ∷ [])) (Arg 0 ∷ Out 9 0 ∷ Out 9 0 ∷ Arg 1 ∷ Arg 2 ∷ []) ∷ [])) ∷ []))
     (Out 6 2 ∷ Out 6 3 ∷ Out 6 4 ∷ []))
 
-all_move : pll 1 (pll 2 (pll 3 (chosen_row 7))) ≡ moved
+all_move : lambda_pulled 1 (lambda_pulled 2 (lambda_pulled 3 (chosen_row 7))) ≡ moved
 all_move = refl
 
 all_fit : well_formed moved ≡ true
 all_fit = refl
 
-before_after : (lambda_values (chosen_row 7) ≡ 47) × (lambda_values (pll 3 (chosen_row 7)) ≡ 45) × (lambda_values moved ≡ 49)
+before_after : (lambda_values (chosen_row 7) ≡ 47) × (lambda_values (lambda_pulled 3 (chosen_row 7)) ≡ 45) × (lambda_values moved ≡ 49)
 before_after = (refl, refl, refl)
 
 -- ---- the numbers
@@ -90,15 +90,15 @@ abbrev left : List NodeTree → List NodeTree
 left rest = plain 1 (Const 1) [] ∷ rest
 
 -- both regions use it, one of three, none
-both : pll 0 (value_body 20 (start (chosen (Out 1 0 ∷ Out 0 0 ∷ []) (passing ∷ passing ∷ []) ∷ [])) (Out 9 0))
+both : lambda_pulled 0 (value_body 20 (start (chosen (Out 1 0 ∷ Out 0 0 ∷ []) (passing ∷ passing ∷ []) ∷ [])) (Out 9 0))
     ≡ value_body 22 (left (chosen (Out 1 0 ∷ []) (with_copy 20 ∷ with_copy 21 ∷ []) ∷ [])) (Out 9 0)
 both = refl
 
-one_of_three : pll 0 (value_body 20 (start (chosen (Out 1 0 ∷ Out 0 0 ∷ []) (other 5 ∷ passing ∷ other 6 ∷ []) ∷ [])) (Out 9 0))
+one_of_three : lambda_pulled 0 (value_body 20 (start (chosen (Out 1 0 ∷ Out 0 0 ∷ []) (other 5 ∷ passing ∷ other 6 ∷ []) ∷ [])) (Out 9 0))
     ≡ value_body 21 (left (chosen (Out 1 0 ∷ []) (without 5 ∷ with_copy 20 ∷ without 6 ∷ []) ∷ [])) (Out 9 0)
 one_of_three = refl
 
-none_of_two : pll 0 (value_body 20 (start (chosen (Out 1 0 ∷ Out 0 0 ∷ []) (other 5 ∷ other 6 ∷ []) ∷ [])) (Out 9 0))
+none_of_two : lambda_pulled 0 (value_body 20 (start (chosen (Out 1 0 ∷ Out 0 0 ∷ []) (other 5 ∷ other 6 ∷ []) ∷ [])) (Out 9 0))
     ≡ value_body 20 (left (chosen (Out 1 0 ∷ []) (without 5 ∷ without 6 ∷ []) ∷ [])) (Out 9 0)
 none_of_two = refl
 
@@ -106,7 +106,7 @@ none_of_two = refl
 abbrev second : ℕ → RegionTree
 second k = region (Value ∷ Value ∷ []) (nodes_of []) (Arg k ∷ [])
 
-twice : pll 0 (value_body 20 (start (chosen (Out 1 0 ∷ Out 0 0 ∷ Out 0 0 ∷ []) (second 0 ∷ second 1 ∷ []) ∷ [])) (Out 9 0))
+twice : lambda_pulled 0 (value_body 20 (start (chosen (Out 1 0 ∷ Out 0 0 ∷ Out 0 0 ∷ []) (second 0 ∷ second 1 ∷ []) ∷ [])) (Out 9 0))
     ≡ value_body 22 (left (chosen (Out 1 0 ∷ []) (with_copy 20 ∷ with_copy 21 ∷ []) ∷ [])) (Out 9 0)
 twice = refl
 
@@ -117,7 +117,7 @@ sum_of id = region (Value ∷ Value ∷ []) (nodes_of (plain id (Bin Add) (Arg 0
 abbrev doubled : PlainLambda
 doubled = value_body 20 (start (plain 2 (Bin Add) (Out 0 0 ∷ Out 0 0 ∷ []) ∷ chosen (Out 1 0 ∷ Out 2 0 ∷ []) (passing ∷ passing ∷ []) ∷ [])) (Out 9 0)
 
-equal_inputs : pll 2 doubled ≡ value_body 22 (start (chosen (Out 1 0 ∷ Out 0 0 ∷ Out 0 0 ∷ []) (sum_of 20 ∷ sum_of 21 ∷ []) ∷ [])) (Out 9 0)
+equal_inputs : lambda_pulled 2 doubled ≡ value_body 22 (start (chosen (Out 1 0 ∷ Out 0 0 ∷ Out 0 0 ∷ []) (sum_of 20 ∷ sum_of 21 ∷ []) ∷ [])) (Out 9 0)
 equal_inputs = refl
 
 -- at most 8,192 values: four more come than go
@@ -136,6 +136,6 @@ not_alone = (refl, refl, refl, refl, refl)
 abbrev nested : List NodeTree → RegionTree
 nested nodes = region [] (nodes_of nodes) (Out 9 0 ∷ [])
 
-within : pll 0 (value_body 20 (plain 4 (Const 0) [] ∷ node 11 Gamma (Out 4 0 ∷ []) (regions_of (nested (start (chosen (Out 1 0 ∷ Out 0 0 ∷ []) (passing ∷ other 6 ∷ []) ∷ [])) ∷ [])) ∷ []) (Out 11 0))
+within : lambda_pulled 0 (value_body 20 (plain 4 (Const 0) [] ∷ node 11 Gamma (Out 4 0 ∷ []) (regions_of (nested (start (chosen (Out 1 0 ∷ Out 0 0 ∷ []) (passing ∷ other 6 ∷ []) ∷ [])) ∷ [])) ∷ []) (Out 11 0))
     ≡ value_body 21 (plain 4 (Const 0) [] ∷ node 11 Gamma (Out 4 0 ∷ []) (regions_of (nested (left (chosen (Out 1 0 ∷ []) (with_copy 20 ∷ without 6 ∷ []) ∷ [])) ∷ [])) ∷ []) (Out 11 0)
 within = refl

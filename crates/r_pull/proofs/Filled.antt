@@ -18,7 +18,7 @@ use Rattle.r_pull.specs.declared.find.Found.{Found}
 use Rattle.r_pull.specs.declared.plan.NewLists.{NewLists}
 use Rattle.r_pull.specs.declared.plan.Plan.{Plan}
 use Rattle.r_pull.specs.Rule.{other_entries, inputs_carried, args_from, copy_used, begun_with, copies_in}
-use Rattle.r_pull.specs.Rule.{copies, regions_filled, only_user, gamma_pulled, pull_at, region_pulled, pll_here}
+use Rattle.r_pull.specs.Rule.{copies, regions_filled, only_user, gamma_pulled, pull_at, region_pulled, pull_here}
 use Rattle.r_pull.specs.Edit.{entries_of, pull_into, begun, begun_where, region_with, regions_with, count_nodes, HasRoom}
 use Rattle.r_pull.specs.Edit.{HaveRoom, AreListsOf, AreListsOfAll, taking, pull_seen, IsPlanFor, planned, FitsPlanned}
 use Rattle.r_pull.proofs.Found.{changed_alike, only_is_first}
@@ -116,7 +116,7 @@ plan_is next n (node xid op xs qs) (node id gop ges rs) p entries carried e c s 
     }
 
 pub planned_is : (values next n : ℕ) (r : RegionTree) (f : Found) (p : Plan) → Some (pull_seen f) ≡ pull_at values next n r → only_user n (nodes_in r) ≡ Some f.user.now →
-    IsPlanFor next n f.node.now f.user.now p → planned n r (Some p) ≡ pll_here values next n r
+    IsPlanFor next n f.node.now f.user.now p → planned n r (Some p) ≡ pull_here values next n r
 planned_is values next n (region args nodes results) f p e u h =
     ap (λ ns. Some (region_without n (region args ns results)))
     (changed_alike n (taking p) (gamma_pulled next n (pull_seen f)) nodes
@@ -125,7 +125,7 @@ planned_is values next n (region args nodes results) f p e u h =
     subst (λ z. taking p z ≡ gamma_pulled next n (pull_seen f) z) same h.taken))
     ∙ ap (option_map (region_pulled next n (region args nodes results))) e
 
-pub planned_none : (values next n : ℕ) (r : RegionTree) → None ≡ pull_at values next n r → planned n r None ≡ pll_here values next n r
+pub planned_none : (values next n : ℕ) (r : RegionTree) → None ≡ pull_at values next n r → planned n r None ≡ pull_here values next n r
 planned_none values next n r e = ap (option_map (region_pulled next n r)) e
 
 pub planned_fits : (next n : ℕ) (r : RegionTree) (f : Found) (p : Plan) → only_user n (nodes_in r) ≡ Some f.user.now → IsPlanFor next n f.node.now f.user.now p → FitsPlanned n (nodes_in r) (Some p)

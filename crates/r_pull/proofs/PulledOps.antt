@@ -14,7 +14,7 @@ use Rattle.r_edit.specs.Uses.{is_read}
 use Rattle.r_edit.specs.Entries.{argument_after, is_gone_argument, some_reads, regions_taking}
 use Rattle.r_edit.specs.InPlace.{region_taking}
 use Rattle.r_edit.proofs.lemmas.Removal.{without_ops}
-use Rattle.r_pull.specs.Rule.{args_from, copy_used, region_filled, copies_in, regions_filled, Pull, stays_of, inputs_carried, gamma_pulled, pll_here}
+use Rattle.r_pull.specs.Rule.{args_from, copy_used, region_filled, copies_in, regions_filled, Pull, stays_of, inputs_carried, gamma_pulled, pull_here}
 use Rattle.r_pull.proofs.Means.{regions_pulled, pulled-is}
 use Rattle.r_pull.proofs.Resized.{result-is}
 use Rattle.r_pull.proofs.User.{PulledAt, pulled-at}
@@ -61,7 +61,7 @@ module _ (p : Op → ℕ → Type 0) (gamma : (m k : ℕ) → p Gamma m → p Ga
       all-ops (copy + copies_in stays r) rs (λ e. own (rest-reads (is_read (is_gone_argument stays) r) (some_reads stays rs) e)) h.1,
     )
 
-  pub here-ops : (values next n : ℕ) (r s : RegionTree) → pll_here values next n r ≡ Some s → RegionOps p r → RegionOps p s
+  pub here-ops : (values next n : ℕ) (r s : RegionTree) → pull_here values next n r ≡ Some s → RegionOps p r → RegionOps p s
   here-ops values next n (region args ns results) s e h =
       subst (λ t. RegionOps p t) (sym (result-is values next n args ns results s at))
       (without_ops p n (region args changed results)

@@ -19,7 +19,7 @@ use Rattle.r_edit.specs.Removal.{nodes_without}
 use Rattle.r_edit.specs.Size.{may_change_size, Resized, IsResized}
 use Rattle.r_edit.proofs.lemmas.EntriesFit.{ids_same}
 use Rattle.r_edit.proofs.lemmas.Pure.{pure-outputs}
-use Rattle.r_pull.specs.Rule.{user_changed, regions_filled, Pull, stays_of, inputs_carried, copies_of, gamma_pulled, gone_args, added, gone, fits, most_next, pll_here}
+use Rattle.r_pull.specs.Rule.{user_changed, regions_filled, Pull, stays_of, inputs_carried, copies_of, gamma_pulled, gone_args, added, gone, fits, most_next, pull_here}
 use Rattle.r_pull.proofs.Means.{pulled-is}
 use Rattle.r_pull.proofs.Counted.{counted, filled-ids, pulled-values, outputs-as-many, still-found, without-ids, without-values}
 use Rattle.r_pull.proofs.User.{PulledAt, pulled-at}
@@ -150,5 +150,5 @@ module _ (values next n : ℕ) (args : List Kind) (ns : NodeTrees) (results : Li
         resized = resized;
       }
 
-pub pll_resizes : (values next n : ℕ) (r s : RegionTree) → pll_here values next n r ≡ Some s → IsResized values r s
-pll_resizes values next n (region args ns results) s e = is-resized values next n args ns results s (pulled-at values next n args ns results s e)
+pub pull_resizes : (values next n : ℕ) (r s : RegionTree) → pull_here values next n r ≡ Some s → IsResized values r s
+pull_resizes values next n (region args ns results) s e = is-resized values next n args ns results s (pulled-at values next n args ns results s e)

@@ -26,12 +26,12 @@ use Rattle.r_edit.specs.Uses.{nodes_read, is_output_of}
 use Rattle.r_edit.specs.Removal.{nodes_without}
 use Rattle.r_edit.proofs.lemmas.Steps.{safe_changes_are_steps}
 use Rattle.r_edit.proofs.lemmas.Swapped.{RegionStays}
-use Rattle.r_pull.specs.Rule.{copies_of, gamma_pulled, pll_here, copies_here, copies_at, pll}
-use Rattle.r_pull.specs.Laws.{PllReplaces, PllIsAStep}
+use Rattle.r_pull.specs.Rule.{copies_of, gamma_pulled, pull_here, copies_here, copies_at, lambda_pulled}
+use Rattle.r_pull.specs.Laws.{PullReplaces, PullIsAStep}
 use Rattle.r_pull.proofs.Answered.{numbered-more, Answers, region_silent, region_answers}
 use Rattle.r_pull.proofs.Kept.{gamma-kept, gamma-replaces}
 use Rattle.r_pull.proofs.PulledOps.{here-ops}
-use Rattle.r_pull.proofs.Resized.{result-is, pulled-ids, pll_resizes}
+use Rattle.r_pull.proofs.Resized.{result-is, pulled-ids, pull_resizes}
 use Rattle.r_pull.proofs.Unread.{uses-known, known-has, found-before}
 use Rattle.r_pull.proofs.User.{PulledAt, pulled-at, none-copied}
 
@@ -91,14 +91,14 @@ module _ (l : PlainLambda) (values n : ℕ) (args : List Kind) (ns : NodeTrees) 
       (subst (λ front. IsPartOf l (Whole front)) before.is part-here) (ap (nodes_read (is_output_of n)) (sym before.is) ∙ at.user.none_before) at.user.none_after at.no_predicate at.no_result
       ls ks)))
 
-pub pll_replaces : PllReplaces
-pll_replaces ls ks values n l (region args ns results) s part e =
+pub pull_replaces : PullReplaces
+pull_replaces ls ks values n l (region args ns results) s part e =
     region-replaces l values n args ns results s (pulled-at values l.next n args ns results s e) part ls ks
 
 -- ---- the lambda
 
 abbrev here : ℕ → PlainLambda → RegionTree → Option RegionTree
-here n l = pll_here (lambda_values l) l.next n
+here n l = pull_here (lambda_values l) l.next n
 
 here-keeps : (n : ℕ) (l : PlainLambda) (r s : RegionTree) → here n l r ≡ Some s → every_region (region_fits (length l.objects)) r ≡ true → Numbered l.next (region_ids r) →
     RegionStays (length l.objects) r s
@@ -106,7 +106,7 @@ here-keeps n l (region args ns results) s e fits numbers =
     region-kept l (lambda_values l) n args ns results s (pulled-at (lambda_values l) l.next n args ns results s e)
     (record { fits = fits; closed = region-closed (length l.objects) (region args ns results) fits; unique = numbers.unique; below = numbers.below })
 
-here-answers : (values next n : ℕ) (r s : RegionTree) → pll_here values next n r ≡ Some s → Answers next (copies_here values next n r) (region_ids r) (region_ids s)
+here-answers : (values next n : ℕ) (r s : RegionTree) → pull_here values next n r ≡ Some s → Answers next (copies_here values next n r) (region_ids r) (region_ids s)
 here-answers values next n (region args ns results) s e =
     let at = pulled-at values next n args ns results s e in
     record { count = copies_of n at.pull; gives = at.copies; ids = pulled-ids values next n args ns results s at }
@@ -125,8 +125,8 @@ numbers-of l w =
     let front = (and_parts (body_fits l && numbers_fit l && nest) _ w).0 in
     (and_parts (body_fits l) (numbers_fit l) (and_parts (body_fits l && numbers_fit l) nest front).0).1
 
-pub pll_well_formed : (n : ℕ) (l : PlainLambda) → IsWellFormed l → IsWellFormed (pll n l)
-pll_well_formed n l w = by_change (region_changed (here n l) l.body) refl
+pub pull_well_formed : (n : ℕ) (l : PlainLambda) → IsWellFormed l → IsWellFormed (lambda_pulled n l)
+pull_well_formed n l w = by_change (region_changed (here n l) l.body) refl
   where
     by_change : (o : Option RegionTree) → region_changed (here n l) l.body ≡ o → well_formed (record l { body = unwrap_or o l.body; next = l.next + unwrap_or (copies_at l n) 0 }) ≡ true
     by_change None e =
@@ -140,15 +140,15 @@ pll_well_formed n l w = by_change (region_changed (here n l) l.body) refl
         (changed_well_formed (here n l) l s (l.next + h.count) (record
         { kept = λ r t q fits numbers. let h = here-keeps n l r t q fits numbers in record { args = h.args; results = h.results; inside = h.inside } }) e w (λ i. now.unique i && now.below i))
 
-edited : (n : ℕ) (l : PlainLambda) → IsEdited (here n l) l (pll n l)
+edited : (n : ℕ) (l : PlainLambda) → IsEdited (here n l) l (lambda_pulled n l)
 edited n l = record { number = refl; params = refl; objects = refl; body = refl }
 
-pub pll_is_a_step : PllIsAStep
-pll_is_a_step held n l well =
-    safe_changes_are_steps (here n l) l (pll n l) well (pll_well_formed n l well) (edited n l)
+pub pull_is_a_step : PullIsAStep
+pull_is_a_step held n l well =
+    safe_changes_are_steps (here n l) l (lambda_pulled n l) well (pull_well_formed n l well) (edited n l)
     (record {
-      replaces = λ ls ks r s part e. pll_replaces ls ks (lambda_values l) n l r s part e;
+      replaces = λ ls ks r s part e. pull_replaces ls ks (lambda_values l) n l r s part e;
       calls = λ ls r s e h. here-ops (Calls ls) (λ m k d. d) (lambda_values l) l.next n r s e h;
       names = λ globals r s e h. here-ops (NamesGlobal globals) (λ m k d. d) (lambda_values l) l.next n r s e h;
-      resized = λ r s e. pll_resizes (lambda_values l) l.next n r s e;
+      resized = λ r s e. pull_resizes (lambda_values l) l.next n r s e;
     }) held

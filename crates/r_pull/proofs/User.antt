@@ -13,7 +13,7 @@ use Rattle.g_graph.specs.WellFormed.{some_of}
 use Rattle.g_graph.specs.Nodes.{node_at}
 use Rattle.g_graph.specs.Splice.{joined_nodes}
 use Rattle.r_edit.specs.Uses.{nodes_read, is_output_of}
-use Rattle.r_pull.specs.Rule.{node_uses, only_user, user_changed, Pull, copies_of, fits, into, pull_of, where_fits, pull_at, region_pulled, pll_here, copies_here}
+use Rattle.r_pull.specs.Rule.{node_uses, only_user, user_changed, Pull, copies_of, fits, into, pull_of, where_fits, pull_at, region_pulled, pull_here, copies_here}
 
 -- ---- the user
 
@@ -193,11 +193,11 @@ module _ (values next n : ℕ) (args : List Kind) (ns : NodeTrees) (results : Li
   by-node (Some (node id op inputs rs)) e s d c =
       by-test id op inputs rs s e (is_pure op && has_none rs && not (some_of (is_output_of n) results)) refl d c
 
-  pub pulled-at : (s : RegionTree) → pll_here values next n whole ≡ Some s → PulledAt values next n args ns results s
+  pub pulled-at : (s : RegionTree) → pull_here values next n whole ≡ Some s → PulledAt values next n args ns results s
   pulled-at s e = by-node (node_at n ns) refl s e refl
 
 -- where the rule changes no region it makes no copies
-pub none-copied : (values next n : ℕ) (r : RegionTree) → pll_here values next n r ≡ None → copies_here values next n r ≡ None
+pub none-copied : (values next n : ℕ) (r : RegionTree) → pull_here values next n r ≡ None → copies_here values next n r ≡ None
 none-copied values next n r e = by (pull_at values next n r) e
   where
     by : (found : Option Pull) → option_map (region_pulled next n r) found ≡ None → option_map (copies_of n) found ≡ None

@@ -23,8 +23,8 @@ use Rattle.g_mean.proofs.lemmas.Splices.{joined-read, known-among}
 use Rattle.r_edit.specs.Uses.{nodes_read, is_output_of}
 use Rattle.r_edit.specs.Removal.{nodes_without}
 use Rattle.r_pull.specs.Rule as rule
-use Rattle.r_pull.specs.Rule.{node_uses, only_user, user_changed, gamma_pulled, added, gone, copies_of, into, pull_of, where_fits, pull_at, region_pulled, pll_here, copies_here, copies_at, region_answer, applies, pll}
-use Rattle.r_pull.specs.Laws.{PllIsAStep}
+use Rattle.r_pull.specs.Rule.{node_uses, only_user, user_changed, gamma_pulled, added, gone, copies_of, into, pull_of, where_fits, pull_at, region_pulled, pull_here, copies_here, copies_at, region_answer, applies, lambda_pulled}
+use Rattle.r_pull.specs.Laws.{PullIsAStep}
 use Rattle.r_pull.proofs.Resized.{pulled-count}
 use Rattle.r_pull.proofs.Unread.{uses-known}
 use Rattle.r_pull.proofs.User.{pulled-at}
@@ -83,7 +83,7 @@ module _ (n : ℕ) where
 
 -- ---- a number that is not there
 
-changes_only : (values next n : ℕ) → ChangesOnlyAt n (pll_here values next n)
+changes_only : (values next n : ℕ) → ChangesOnlyAt n (pull_here values next n)
 changes_only values next n (region args nodes results) h =
     ap (λ o. option_map (region_pulled next n (region args nodes results)) (option_and_then (where_fits values next n) (option_and_then (pull_of n (region args nodes results)) o))) (not_found n nodes h)
 
@@ -125,7 +125,7 @@ none_swept l body w now =
 
 -- ---- the node
 
-module _ (is_step : PllIsAStep) (context : RegionTree → RegionTree) (place : IsPlace context) (args : List Kind) (before : NodeTrees) (n : ℕ) (op : Op) (inputs : List Origin) (rs : RegionTrees)
+module _ (is_step : PullIsAStep) (context : RegionTree → RegionTree) (place : IsPlace context) (args : List Kind) (before : NodeTrees) (n : ℕ) (op : Op) (inputs : List Origin) (rs : RegionTrees)
     (s : Behind) (results : List Origin) (l : PlainLambda)
     (now : IsNow (context (region args (joined_nodes before (node_then (node n op inputs rs) s.nodes)) results)) s.now l) where
   abbrev x : NodeTree
@@ -205,16 +205,16 @@ module _ (is_step : PllIsAStep) (context : RegionTree → RegionTree) (place : I
     found : pull_at (lambda_values l) l.next n here ≡ Some h
     found = pull_is ∙ e
 
-    changes : pll_here (lambda_values l) l.next n here ≡ Some then
+    changes : pull_here (lambda_values l) l.next n here ≡ Some then
     changes = ap (option_map (region_pulled l.next n here)) found ∙ ap Some (pulled_is h)
 
     copied : copies_at l n ≡ Some (copies_of n h)
     copied = answer_is ∙ ap (option_map (copies_of n)) found
 
-    lambda_is : pll n l ≡ record l { body = context then; next = l.next + copies_of n h }
+    lambda_is : lambda_pulled n l ≡ record l { body = context then; next = l.next + copies_of n h }
     lambda_is =
         ap₂ (λ o c. record l { body = unwrap_or o l.body; next = l.next + unwrap_or c 0 })
-        (local.changed_at l context args before x s.nodes results place.is now.well now.body_is (pll_here (lambda_values l) l.next n) (changes_only (lambda_values l) l.next n) then changes) copied
+        (local.changed_at l context args before x s.nodes results place.is now.well now.body_is (pull_here (lambda_values l) l.next n) (changes_only (lambda_values l) l.next n) then changes) copied
 
     counted : s.now.values + added n h - gone n h ≡ region_values (context then)
     counted =
@@ -237,7 +237,7 @@ module _ (is_step : PllIsAStep) (context : RegionTree → RegionTree) (place : I
         let same = lambda_is
         ∙ ap (λ k. record l { body = context (region args (joined_nodes before (user_changed n (gamma_pulled k n h) s.nodes)) results); next = k + copies_of n h }) (sym now.next) in
         record {
-          swept = ap (λ t. cond t (record { lambda = pll n l; steps = steps }) (logged l s.now)) (ap is_some copied) ∙ ap (λ z. record { lambda = z; steps = steps }) same;
+          swept = ap (λ t. cond t (record { lambda = lambda_pulled n l; steps = steps }) (logged l s.now)) (ap is_some copied) ∙ ap (λ z. record { lambda = z; steps = steps }) same;
           well = subst IsWellFormed same (is_step [] n l now.well).well_formed;
           values = counted ∙ ap (λ k. region_values (context (region args (joined_nodes before (user_changed n (gamma_pulled k n h) s.nodes)) results))) (sym now.next);
           next = refl;
@@ -253,7 +253,7 @@ module _ (is_step : PllIsAStep) (context : RegionTree → RegionTree) (place : I
       by None e =
           let none = none_swept l (context here) s.now now in
           record {
-            swept = ap (λ t. cond t (record { lambda = pll n l; steps = s.now.steps ++ record { rule = Pull; node = n } ∷ [] }) (logged l s.now)) (stays e) ∙ none.swept;
+            swept = ap (λ t. cond t (record { lambda = lambda_pulled n l; steps = s.now.steps ++ record { rule = Pull; node = n } ∷ [] }) (logged l s.now)) (stays e) ∙ none.swept;
             well = none.well;
             values = none.values;
             next = none.next;

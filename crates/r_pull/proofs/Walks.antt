@@ -11,7 +11,7 @@ use Rattle.g_graph.specs.Ids.{region_ids, node_ids, nodes_ids, regions_ids}
 use Rattle.g_graph.specs.Plain.{RegionTree, region, NodeTree, node, NodeTrees, no_nodes, node_then, RegionTrees, no_regions, region_then, PlainLambda}
 use Rattle.g_graph.specs.Splice.{joined_nodes}
 use Rattle.g_graph.proofs.lemmas.Splices.{joined_assoc}
-use Rattle.r_pull.specs.Laws.{PllIsAStep}
+use Rattle.r_pull.specs.Laws.{PullIsAStep}
 use Rattle.r_pull.specs.WalkLaws.{pull_change, PullWalksAreSweeps}
 use Rattle.r_pull.specs.Walk.{Behind, walk_region, walk_regions, walk_nodes, walk_node}
 use Rattle.r_pull.proofs.Places.{IsPlace, body_place, inner_place}
@@ -45,7 +45,7 @@ regions_after (region_then q done) r rs = ap (region_then q) (regions_after done
 
 -- ---- the walk
 
-module _ (is_step : PllIsAStep) where
+module _ (is_step : PullIsAStep) where
   -- what is to be shown of the last nodes of a region, of a node before those, of a region, and of the last regions of a node
   abbrev NodesAre : NodeTrees → Type 0
   NodesAre ns =

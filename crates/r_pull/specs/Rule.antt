@@ -163,8 +163,8 @@ pull_at values next n r = option_and_then (where_fits values next n) (option_and
 abbrev pub region_pulled : (next n : ℕ) → RegionTree → Pull → RegionTree
 region_pulled next n (region args nodes results) h = region_without n (region args (user_changed n (gamma_pulled next n h) nodes) results)
 
-abbrev pub pll_here : (values next n : ℕ) → RegionTree → Option RegionTree
-pll_here values next n r = option_map (region_pulled next n r) (pull_at values next n r)
+abbrev pub pull_here : (values next n : ℕ) → RegionTree → Option RegionTree
+pull_here values next n r = option_map (region_pulled next n r) (pull_at values next n r)
 
 -- how many copies the change of a region makes
 abbrev pub copies_here : (values next n : ℕ) → RegionTree → Option ℕ
@@ -194,5 +194,5 @@ copies_at l n = region_answer (copies_here (lambda_values l) l.next n) l.body
 abbrev pub applies : PlainLambda → ℕ → Bool
 applies l n = is_some (copies_at l n)
 
-abbrev pub pll : ℕ → PlainLambda → PlainLambda
-pll n l = record (lambda_changed (pll_here (lambda_values l) l.next n) l) { next = l.next + unwrap_or (copies_at l n) 0 }
+abbrev pub lambda_pulled : ℕ → PlainLambda → PlainLambda
+lambda_pulled n l = record (lambda_changed (pull_here (lambda_values l) l.next n) l) { next = l.next + unwrap_or (copies_at l n) 0 }

@@ -5,7 +5,7 @@ ghost use Rattle.std.specs.declared.option.Option.TheVariants.{Some, None};
 ghost use Rattle.g_graph.specs.Plain.{nodes_in, PlainLambda};
 ghost use Rattle.g_graph.specs.WellFormed.{IsWellFormed};
 ghost use Rattle.r_edit.specs.Steps.{MayStandFor};
-ghost use Rattle.r_pull.specs.Rule.{copies_here, pll_here, region_answer, node_answer, copies_at, applies, most_next, pll};
+ghost use Rattle.r_pull.specs.Rule.{copies_here, pull_here, region_answer, node_answer, copies_at, applies, most_next, lambda_pulled};
 ghost use Rattle.r_pull.specs.Edit.{planned, FitsPlanned};
 
 use crate::fill::carry_out;
@@ -34,7 +34,7 @@ pub fn applies(lambda: &Lambda, node: u32) -> bool
 pub fn apply(alloc: Global, lambda: &mut Lambda, node: u32) -> Result<(), NoMemory>
     requires well_formed { IsWellFormed lambda.old }
     requires applies { IsTrue (applies lambda.old node) }
-    ensures ok { OnOk result (lambda.new ≡ pll node lambda.old) }
+    ensures ok { OnOk result (lambda.new ≡ lambda_pulled node lambda.old) }
     ensures step { OnOk result ((held : List PlainLambda) →
         MayStandFor held lambda.old lambda.new) }
     ensures err { OnErr result (lambda.new ≡ lambda.old) }
@@ -49,7 +49,7 @@ pub fn apply(alloc: Global, lambda: &mut Lambda, node: u32) -> Result<(), NoMemo
 fn pull(alloc: Global, lambda: &mut Lambda, node: u32, copies: u32) -> Result<(), NoMemory>
     requires copies { copies_at lambda.old node ≡ Some copies }
     requires next { lambda.old.next + copies ≤ most_next }
-    ensures ok { OnOk result (lambda.new ≡ pll node lambda.old) }
+    ensures ok { OnOk result (lambda.new ≡ lambda_pulled node lambda.old) }
     ensures err { OnErr result (lambda.new ≡ lambda.old) }
 {
     let values = values(lambda);
@@ -130,7 +130,7 @@ struct Pulling {
 impl Change for Pulling {
     type Fault = NoMemory;
 
-    ghost changed = { λ c. pll_here c.values c.next c.node };
+    ghost changed = { λ c. pull_here c.values c.next c.node };
 
     fn make(&mut self, region: &mut Region) -> Result<bool, NoMemory> {
         match plan_at(self.alloc, region, self.values, self.next, self.node)? {
@@ -151,7 +151,7 @@ fn plan_at(
     next: u32,
     id: u32,
 ) -> Result<Option<Plan>, NoMemory>
-    ensures plan { IfOk result (λ p. planned id region.now p ≡ pll_here values next id region.now) }
+    ensures plan { IfOk result (λ p. planned id region.now p ≡ pull_here values next id region.now) }
     ensures fits { IfOk result (λ p. FitsPlanned id (nodes_in region.now) p) }
 {
     match found_at(region, values, next, id) {

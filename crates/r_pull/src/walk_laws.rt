@@ -6,5 +6,5 @@ ghost use Rattle.r_pull.specs.WalkLaws.{PullWalksAreSweeps};
 pub fn pull_walks_are_sweeps()
     ensures { PullWalksAreSweeps }
 {
-    crate::laws::pll_keeps_meaning();
+    crate::laws::pull_keeps_meaning();
 }

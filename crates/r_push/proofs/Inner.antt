@@ -26,12 +26,12 @@ use Rattle.g_mean.specs.Edits.{IsPartOf}
 use Rattle.g_mean.proofs.lemmas.Inside.{node-here, as-many, regions-closed}
 use Rattle.r_push.specs.Edit.{outer}
 use Rattle.r_edit.specs.Size.{may_change_size}
-use Rattle.r_push.specs.Rule.{may_leave, pushed_within, psh_here, applies}
+use Rattle.r_push.specs.Rule.{may_leave, pushed_within, push_here, applies}
 use Rattle.r_push.proofs.Gammas.{AllTake}
 use Rattle.r_push.proofs.Replaced.{take-all}
 use Rattle.r_push.specs.Walk.{Exit, exit_of, is_open, is_loop, growth_of, all_grown, outputs_of_left}
 use Rattle.r_push.proofs.Around.{nodes_lack, IsApart, apart_here, in_outer, own_lack, nodes_inside, IsAround, inner_around}
-use Rattle.r_push.proofs.Pushed.{psh_around, nodes_pushed_at, test_of, leaves_now, without, two, IsHere, pushed_at, values_at}
+use Rattle.r_push.proofs.Pushed.{push_around, nodes_pushed_at, test_of, leaves_now, without, two, IsHere, pushed_at, values_at}
 use Rattle.r_walk.specs.Context.{joined_regions}
 use Rattle.r_walk.proofs.lemmas.Contexts.{map_twice, whole_part}
 use Rattle.r_walk.proofs.lemmas.Local.{not_before}
@@ -168,7 +168,7 @@ module _ (context : RegionTree → RegionTree) (surrounds : IsAround context) (a
     rs = joined_regions (all_grown (is_loop exit) (length left) done) (region_then r (all_grown (is_loop exit) (length left) rest))
 
     abbrev f : RegionTree → Option RegionTree
-    f = psh_here v n
+    f = push_here v n
 
     part : IsPartOf l (outside_now left r)
     part = part_outside l well left r at
@@ -212,7 +212,7 @@ module _ (context : RegionTree → RegionTree) (surrounds : IsAround context) (a
         (nodes_pushed_at v n (earlier_now left) (inner_now left r) after (nodes_lack n (earlier_now left) apart.before_it) (nodes_lack n after apart.after_it)
         ∙ ap (option_map (λ part. joined_nodes (earlier_now left) (joined_nodes part after))) e)
         (nodes_inside context surrounds args (earlier_now left) id op (ins ++ outputs_of_left left) (all_grown (is_loop exit) (length left) done) (all_grown (is_loop exit) (length left) rest) after
-        results n f r (psh_around v n) apart
+        results n f r (push_around v n) apart
         ∙ ap (option_map (λ s. joined_nodes (earlier_now left) (node_then (inner_now left s) after))) (own_unchanged l (room left) (room_around left).is well own first y last outs at v))
         ∙ by o
       where
@@ -225,9 +225,9 @@ module _ (context : RegionTree → RegionTree) (surrounds : IsAround context) (a
         region_changed f l.body ≡ option_map (λ part. context (region args (joined_nodes (earlier_now left) (joined_nodes part after)) results)) o
     body_changed o e =
         ap (region_changed f) at
-        ∙ surrounds.inside n f (outside_now left r) (psh_around v n)
+        ∙ surrounds.inside n f (outside_now left r) (push_around v n)
         (own_lack context surrounds args (earlier_now left) id op (ins ++ outputs_of_left left) (all_grown (is_loop exit) (length left) done) (all_grown (is_loop exit) (length left) rest) after results
-        n f r (psh_around v n) apart)
+        n f r (push_around v n) apart)
         (in_outer n (earlier_now left) id op (ins ++ outputs_of_left left) (all_grown (is_loop exit) (length left) done) r (all_grown (is_loop exit) (length left) rest) after in_r)
         (subst (λ b. distinct (region_ids b) ≡ true) at (whole_part l well).unique)
         ∙ ap (option_map context) (outside_changed o e)

@@ -24,16 +24,16 @@ use Rattle.r_edit.specs.Added.{arg_added, input_added}
 use Rattle.r_edit.proofs.lemmas.Removal.{without_ops}
 use Rattle.r_edit.specs.Steps.{IsSafeChange}
 use Rattle.r_edit.proofs.lemmas.Steps.{kept_well_formed, changed_is_a_step}
-use Rattle.r_push.specs.Rule.{names_argument, leaving, leaving_one, leaving_loop, carried, regions_carried, looped, placed, pushed, psh_here, is_invariant, psh}
-use Rattle.r_push.specs.Laws.{PshIsAStep}
+use Rattle.r_push.specs.Rule.{names_argument, leaving, leaving_one, leaving_loop, carried, regions_carried, looped, placed, pushed, push_here, is_invariant, lambda_pushed}
+use Rattle.r_push.specs.Laws.{PushIsAStep}
 use Rattle.r_push.proofs.LeavingNode.{Leaves, leaves}
-use Rattle.r_push.proofs.Replaced.{changed-at, psh_replaces}
+use Rattle.r_push.proofs.Replaced.{changed-at, push_replaces}
 use Rattle.r_push.proofs.LeftFit.{left-fits}
-use Rattle.r_push.proofs.Resized.{psh_resizes}
+use Rattle.r_push.proofs.Resized.{push_resizes}
 
 -- ---- what is well formed
 
-here-keeps : (l : PlainLambda) (values n : ℕ) (r s : RegionTree) → psh_here values n r ≡ Some s → every_region (region_fits (length l.objects)) r ≡ true → Numbered l.next (region_ids r) →
+here-keeps : (l : PlainLambda) (values n : ℕ) (r s : RegionTree) → push_here values n r ≡ Some s → every_region (region_fits (length l.objects)) r ≡ true → Numbered l.next (region_ids r) →
     KeptWithin (length l.objects) r s
 here-keeps l values n (region args ns results) s e fits numbers =
     let at = changed-at values n args ns results s e in
@@ -108,7 +108,7 @@ module _ (p : Op → ℕ → Type 0) (gamma : (m k : ℕ) → p Gamma m → p Ga
   left-ops n (node id Exit inputs rs) two e h = absurd cc
   left-ops n (node id Get inputs rs) two e h = absurd cc
 
-  here-ops : (values n : ℕ) (r s : RegionTree) → psh_here values n r ≡ Some s → RegionOps p r → RegionOps p s
+  here-ops : (values n : ℕ) (r s : RegionTree) → push_here values n r ≡ Some s → RegionOps p r → RegionOps p s
   here-ops values n (region args ns results) s e h =
       let at = changed-at values n args ns results s e in
       let parts = split-ops p at.before (node_then at.left at.after) (subst (λ ms. NodesOps p ms) at.is h) in
@@ -117,17 +117,17 @@ module _ (p : Op → ℕ → Type 0) (gamma : (m k : ℕ) → p Gamma m → p Ga
 
 -- ---- the step
 
-pub psh_is_safe : (n : ℕ) (l : PlainLambda) → IsSafeChange (psh_here (lambda_values l) n) l
-psh_is_safe n l =
+pub push_is_safe : (n : ℕ) (l : PlainLambda) → IsSafeChange (push_here (lambda_values l) n) l
+push_is_safe n l =
     record {
-      replaces = λ ls ks r s part e. psh_replaces ls ks (lambda_values l) n l r s part e;
+      replaces = λ ls ks r s part e. push_replaces ls ks (lambda_values l) n l r s part e;
       calls = λ ls r s e h. here-ops (Calls ls) (λ m k d. d) (λ m k d. d) (lambda_values l) n r s e h;
       names = λ globals r s e h. here-ops (NamesGlobal globals) (λ m k d. d) (λ m k d. d) (lambda_values l) n r s e h;
-      resized = λ r s e. psh_resizes (lambda_values l) n r s e;
+      resized = λ r s e. push_resizes (lambda_values l) n r s e;
     }
 
-pub psh_stays : (n : ℕ) (l : PlainLambda) → IsWellFormed l → IsWellFormed (psh n l)
-psh_stays n l well = kept_well_formed (psh_here (lambda_values l) n) l (λ r s e fits numbers. here-keeps l (lambda_values l) n r s e fits numbers) well
+pub push_stays : (n : ℕ) (l : PlainLambda) → IsWellFormed l → IsWellFormed (lambda_pushed n l)
+push_stays n l well = kept_well_formed (push_here (lambda_values l) n) l (λ r s e fits numbers. here-keeps l (lambda_values l) n r s e fits numbers) well
 
-pub psh_is_a_step : PshIsAStep
-psh_is_a_step held n l well = changed_is_a_step (psh_here (lambda_values l) n) l well (psh_stays n l well) (psh_is_safe n l) held
+pub push_is_a_step : PushIsAStep
+push_is_a_step held n l well = changed_is_a_step (push_here (lambda_values l) n) l well (push_stays n l well) (push_is_safe n l) held

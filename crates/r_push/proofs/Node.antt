@@ -25,7 +25,7 @@ use Rattle.g_mean.proofs.lemmas.Inside.{inputs-read}
 use Rattle.g_mean.proofs.lemmas.Splices.{joined-read}
 use Rattle.r_edit.specs.Size.{may_change_size}
 use Rattle.r_push.specs.Edit.{outer}
-use Rattle.r_push.specs.Rule.{psh}
+use Rattle.r_push.specs.Rule.{lambda_pushed}
 use Rattle.r_push.proofs.Stays.{known-own}
 use Rattle.r_push.specs.WalkLaws.{push_change}
 use Rattle.r_push.specs.Walk.{Exit, exit_of, is_open, is_loop, growth_of, Walking, Cursor, WrittenNodes, WrittenRegions, goes_along, leaves, gone, grown_by_one, grown, all_grown, outputs_of_left, widened_by, stayed, entered, after, walk_regions, walk_node}
@@ -266,7 +266,7 @@ module _ (given : List Origin) (room : Room) (k : Cursor) (is : IsRoom k.exit gi
   no_ids no_regions e = refl
   no_ids (region_then r ss) e = absurd cc
 
-  module _ (keeps : (n : ℕ) (l : PlainLambda) → IsWellFormed l → IsWellFormed (psh n l)) (goes : leaves k w x ≡ true) where
+  module _ (keeps : (n : ℕ) (l : PlainLambda) → IsWellFormed l → IsWellFormed (lambda_pushed n l)) (goes : leaves k w x ≡ true) where
     abbrev t : WrittenNodes
     t = gone k w x
 
@@ -325,7 +325,7 @@ module _ (given : List Origin) (room : Room) (k : Cursor) (is : IsRoom k.exit gi
         ∙ ap (λ ns. grown (is_loop k.exit) (length w.left) (region args (joined_nodes ns (nodes_redirected later_now xs)) (map later_now k.results))) (sym (joined_none before)))
         ∙ ap (λ m. grown (is_loop k.exit) m (region args (joined_nodes (joined_nodes before no_nodes) (nodes_redirected later_now xs)) (map later_now k.results))) one_more
 
-    lambda_then : psh id l ≡ lambda_with room args before k xs t l
+    lambda_then : lambda_pushed id l ≡ lambda_with room args before k xs t l
     lambda_then =
         left_here.changed
         ∙ ap₂ (λ os r. record l { body = room (w.left ++ node_redirected (args_to_inputs os) x ∷ []) r }) (sym at.state.inputs) region_then_is
@@ -341,7 +341,7 @@ module _ (given : List Origin) (room : Room) (k : Cursor) (is : IsRoom k.exit gi
     node_leaves : Ends (gone k w x)
     node_leaves = record {
       swept_so =
-          ap (λ b. swept (regions_ids rs) (if b then record { lambda = psh id l; steps = t.now.steps } else logged l w)) left_here.applied
+          ap (λ b. swept (regions_ids rs) (if b then record { lambda = lambda_pushed id l; steps = t.now.steps } else logged l w)) left_here.applied
           ∙ ap₂ (λ ids z. swept ids (record { lambda = z; steps = t.now.steps })) alone lambda_then;
       others = record {
         state = record {
@@ -414,7 +414,7 @@ module _ (given : List Origin) (room : Room) (k : Cursor) (is : IsRoom k.exit gi
     node_stays : Ends (stayed k w x inner)
     node_stays = record {
       swept_so =
-          ap (λ b. swept (regions_ids rs) (if b then record { lambda = psh id l; steps = w.steps ++ record { rule = Push; node = id } ∷ [] } else logged l w)) not_applied
+          ap (λ b. swept (regions_ids rs) (if b then record { lambda = lambda_pushed id l; steps = w.steps ++ record { rule = Push; node = id } ∷ [] } else logged l w)) not_applied
           ∙ reached.swept_so ∙ ap (λ z. logged z inner.now) lambda_same;
       others = record {
         state = record {
@@ -432,7 +432,7 @@ module _ (given : List Origin) (room : Room) (k : Cursor) (is : IsRoom k.exit gi
 
   -- ---- by what the walk asks
 
-  pub node_is : ((n : ℕ) (l : PlainLambda) → IsWellFormed l → IsWellFormed (psh n l)) → RegionsAre rs → Ends (walk_node (node id op ins rs) k w)
+  pub node_is : ((n : ℕ) (l : PlainLambda) → IsWellFormed l → IsWellFormed (lambda_pushed n l)) → RegionsAre rs → Ends (walk_node (node id op ins rs) k w)
   node_is keeps walk = by (leaves k w x) refl
     where
       by : (b : Bool) → leaves k w x ≡ b → Ends (if b then gone k w x else stayed k w x (walk_regions rs (exit_of x) (entered w x)))

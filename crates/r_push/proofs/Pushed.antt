@@ -26,7 +26,7 @@ use Rattle.g_mean.specs.Copies.{IsAmong, IsClosed, AllClosed}
 use Rattle.r_edit.specs.Added.{result_added}
 use Rattle.r_edit.specs.Size.{may_change_size}
 use Rattle.r_push.specs.Edit.{outer}
-use Rattle.r_push.specs.Rule.{names_argument, may_leave, only, leaving, leaving_one, is_invariant, carried, regions_carried, looped, placed, growth, can_all_count, can_count, pushed, pushed_within, nodes_pushed, psh_here}
+use Rattle.r_push.specs.Rule.{names_argument, may_leave, only, leaving, leaving_one, is_invariant, carried, regions_carried, looped, placed, growth, can_all_count, can_count, pushed, pushed_within, nodes_pushed, push_here}
 use Rattle.r_push.proofs.Gammas.{AllTake}
 use Rattle.r_push.proofs.Taken.{carried-is}
 use Rattle.r_push.specs.Walk.{Exit, shut, choice, loop, exit_of, is_open, is_loop, growth_of, grown_by_one, grown, all_grown, outputs_of_left}
@@ -65,8 +65,8 @@ nodes_pushed_none v n (node_then x ns) e =
     let p = or_parts (regions_have n (regions_in x)) (nodes_hold n ns) e in
     ap₂ (λ a b. option_or (option_map (λ part. joined_nodes part ns) a) (option_map (node_then x) b)) (within_none v n x (pushed_none n x p.0)) (nodes_pushed_none v n ns p.1)
 
-pub psh_around : (v n : ℕ) → ChangesAround n (psh_here v n)
-psh_around v n (region args nodes results) e = ap (option_map (λ ns. region args ns results)) (nodes_pushed_none v n nodes e)
+pub push_around : (v n : ℕ) → ChangesAround n (push_here v n)
+push_around v n (region args nodes results) e = ap (option_map (λ ns. region args ns results)) (nodes_pushed_none v n nodes e)
 
 -- of these nodes one alone may be left
 pub nodes_pushed_at : (v n : ℕ) (before : NodeTrees) (x : NodeTree) (after : NodeTrees) → nodes_hold n before ≡ false → nodes_hold n after ≡ false →

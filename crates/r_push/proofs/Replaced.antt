@@ -33,8 +33,8 @@ use Rattle.g_mean.proofs.lemmas.Splices.{joined-known, joined-read, known-among}
 use Rattle.r_edit.specs.Added.{input_added}
 use Rattle.r_edit.specs.Uses.{is_read, is_output_of}
 use Rattle.r_edit.specs.Size.{may_change_size}
-use Rattle.r_push.specs.Rule.{names_argument, leaving, leaving_one, is_invariant, leaving_loop, regions_carried, looped, placed, growth, can_count, pushed, pushed_within, nodes_pushed, psh_here}
-use Rattle.r_push.specs.Laws.{PshReplaces}
+use Rattle.r_push.specs.Rule.{names_argument, leaving, leaving_one, is_invariant, leaving_loop, regions_carried, looped, placed, growth, can_count, pushed, pushed_within, nodes_pushed, push_here}
+use Rattle.r_push.specs.Laws.{PushReplaces}
 use Rattle.r_push.proofs.Stays.{known-own, region-unread}
 use Rattle.r_push.proofs.LeavingNode.{Leaves, leaves, Gives, gives-both}
 use Rattle.r_push.proofs.Gammas.{AllTake, leaving-among, one-among, all-mean, gamma-same}
@@ -101,7 +101,7 @@ nodes-changed values n (node_then x ns) ms e = by (pushed_within values n x) ref
         }
     by None d None f h more = absurd cc
 
-pub changed-at : (values n : ℕ) (args : List Kind) (ns : NodeTrees) (results : List Origin) (s : RegionTree) → psh_here values n (region args ns results) ≡ Some s → Changed values n args ns results s
+pub changed-at : (values n : ℕ) (args : List Kind) (ns : NodeTrees) (results : List Origin) (s : RegionTree) → push_here values n (region args ns results) ≡ Some s → Changed values n args ns results s
 changed-at values n args ns results s e = by (nodes_pushed values n ns) refl e
   where
     by : (found : Option NodeTrees) → nodes_pushed values n ns ≡ found → option_map (λ ms. region args ms results) found ≡ Some s → Changed values n args ns results s
@@ -370,8 +370,8 @@ left-replaces l args before (node id Put inputs rs) after results part n two e l
 left-replaces l args before (node id Exit inputs rs) after results part n two e ls ks = absurd cc
 left-replaces l args before (node id Get inputs rs) after results part n two e ls ks = absurd cc
 
-pub psh_replaces : PshReplaces
-psh_replaces ls ks values n l (region args ns results) s part e =
+pub push_replaces : PushReplaces
+push_replaces ls ks values n l (region args ns results) s part e =
     let at = changed-at values n args ns results s e in
     subst (λ ms. Replaces ls ks (region args ms results) s) (sym at.is)
     (subst (λ t. Replaces ls ks (region args (joined_nodes at.before (node_then at.left at.after)) results) t) (sym at.result)

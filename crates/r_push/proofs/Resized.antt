@@ -20,7 +20,7 @@ use Rattle.g_graph.proofs.lemmas.Redirects.{nodes_values-redirected}
 use Rattle.r_edit.specs.Removal.{nodes_without}
 use Rattle.r_edit.specs.Added.{input_added}
 use Rattle.r_edit.specs.Size.{IsResized}
-use Rattle.r_push.specs.Rule.{names_argument, may_leave, only, leaving, leaving_one, is_invariant, leaving_loop, carried, regions_carried, looped, placed, growth, pushed, psh_here}
+use Rattle.r_push.specs.Rule.{names_argument, may_leave, only, leaving, leaving_one, is_invariant, leaving_loop, carried, regions_carried, looped, placed, growth, pushed, push_here}
 use Rattle.r_push.proofs.Replaced.{changed-at}
 
 -- ---- a region
@@ -159,8 +159,8 @@ left-values n (node id Get inputs rs) two e = absurd cc
 
 -- ---- the rule
 
-pub psh_resizes : (values n : ℕ) (r s : RegionTree) → psh_here values n r ≡ Some s → IsResized values r s
-psh_resizes values n (region args ns results) s e =
+pub push_resizes : (values n : ℕ) (r s : RegionTree) → push_here values n r ≡ Some s → IsResized values r s
+push_resizes values n (region args ns results) s e =
     let at = changed-at values n args ns results s e in
     let now = joined_nodes at.before (joined_nodes at.two at.after) in
     subst (λ t. IsResized values (region args ns results) t) (sym at.result)

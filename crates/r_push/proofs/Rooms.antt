@@ -15,10 +15,10 @@ use Rattle.g_graph.proofs.lemmas.Splices.{nodes_ids-joined}
 use Rattle.g_mean.specs.Copies.{IsAmong}
 use Rattle.g_mean.proofs.lemmas.Copies.{among-left, among-right}
 use Rattle.g_mean.proofs.lemmas.Holds.{id-among}
-use Rattle.r_push.specs.Rule.{psh_here, applies, psh}
+use Rattle.r_push.specs.Rule.{push_here, applies, lambda_pushed}
 use Rattle.r_push.specs.Walk.{Exit, shut, is_open, is_loop, growth_of, outputs_of_left}
 use Rattle.r_push.proofs.Around.{regions_lack, nodes_lack, nodes_hold-joined, none_around, IsAround, body_around}
-use Rattle.r_push.proofs.Pushed.{psh_around, leaves_now, without}
+use Rattle.r_push.proofs.Pushed.{push_around, leaves_now, without}
 use Rattle.r_walk.specs.Context.{IsContext}
 use Rattle.r_walk.proofs.lemmas.Contexts.{nodes_changed_within, regions_unchanged_without}
 use Rattle.r_walk.proofs.lemmas.Local.{not_in_before, not_in_after, not_inside}
@@ -29,9 +29,9 @@ use Rattle.r_walk.proofs.lemmas.Local.{not_in_before, not_in_after, not_inside}
 pub record HasLeft (exit : Exit) (given : List Origin) (room : List NodeTree → RegionTree → RegionTree) (l : PlainLambda) (left : List NodeTree)
     (own : List Kind) (first : NodeTrees) (y : NodeTree) (last : NodeTrees) (outs : List Origin) : Type 0 where
   pub applied : applies l (id_of y) ≡ true
-  pub changed : psh (id_of y) l ≡
+  pub changed : lambda_pushed (id_of y) l ≡
       record l { body = room (left ++ node_redirected (args_to_inputs (given ++ outputs_of_left left)) y ∷ []) (without own first y last outs (is_loop exit)) }
-  pub values : lambda_values (psh (id_of y) l) ≡ lambda_values l + growth_of exit
+  pub values : lambda_values (lambda_pushed (id_of y) l) ≡ lambda_values l + growth_of exit
 
 -- The region's arguments come from these inputs, and then from what the nodes that left give. A loop has a result for each
 -- argument, and one more.
@@ -68,16 +68,16 @@ module _ (l : PlainLambda) (context : RegionTree → RegionTree) (is : IsContext
       (among-right n (nodes_ids first) (node_ids y ++ nodes_ids last) (among-left n (node_ids y) (nodes_ids last) (id-among y)))
 
   module _ (v : ℕ) where
-    node_none : (z : NodeTree) → (IsAmong n (regions_ids (regions_in z)) → ⊥) → node_changed (psh_here v n) z ≡ None
-    node_none (node id op inputs rs) h = ap (option_map (λ ss. node id op inputs ss)) (regions_unchanged_without n (psh_here v n) (none_around n (psh_here v n) (psh_around v n)) rs h)
+    node_none : (z : NodeTree) → (IsAmong n (regions_ids (regions_in z)) → ⊥) → node_changed (push_here v n) z ≡ None
+    node_none (node id op inputs rs) h = ap (option_map (λ ss. node id op inputs ss)) (regions_unchanged_without n (push_here v n) (none_around n (push_here v n) (push_around v n)) rs h)
 
-    pub own_unchanged : region_changed (psh_here v (id_of y)) (region own (joined_nodes first (node_then y last)) outs) ≡ None
+    pub own_unchanged : region_changed (push_here v (id_of y)) (region own (joined_nodes first (node_then y last)) outs) ≡ None
     own_unchanged =
         ap₂ (λ a b. option_or a (option_map (λ ns. region own ns outs) b))
-        (psh_around v n (region own (joined_nodes first (node_then y last)) outs)
+        (push_around v n (region own (joined_nodes first (node_then y last)) outs)
         (nodes_hold-joined n first (node_then y last)
         ∙ (λ i. nodes_lack n first not_first i || (regions_lack n (regions_in y) not_within i || nodes_lack n last not_last i))))
-        (nodes_changed_within n (psh_here v n) (none_around n (psh_here v n) (psh_around v n)) first y last not_first not_last
+        (nodes_changed_within n (push_here v n) (none_around n (push_here v n) (push_around v n)) first y last not_first not_last
         ∙ ap (option_map (λ z. joined_nodes first (node_then z last))) (node_none y not_within))
 
 -- ---- the room of the body
@@ -89,5 +89,5 @@ body_room = record {
   turns = λ l well left r at loops. absurd cc;
   leaves = λ l well left empty own first y last outs at e. absurd cc;
   stays = λ l well left empty own first y last outs at e.
-      ap is_some (ap (region_changed (psh_here (lambda_values l) (id_of y))) at ∙ own_unchanged l (λ r. r) body_around.is well own first y last outs at (lambda_values l));
+      ap is_some (ap (region_changed (push_here (lambda_values l) (id_of y))) at ∙ own_unchanged l (λ r. r) body_around.is well own first y last outs at (lambda_values l));
 }

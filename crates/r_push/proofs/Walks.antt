@@ -15,7 +15,7 @@ use Rattle.g_graph.specs.WellFormed.{IsWellFormed}
 use Rattle.g_graph.proofs.lemmas.Redirects.{nodes_ids-redirected, nodes_unmoved, all_unmoved}
 use Rattle.g_graph.proofs.lemmas.Splices.{joined_assoc}
 use Rattle.r_push.specs.Edit.{outer}
-use Rattle.r_push.specs.Rule.{psh}
+use Rattle.r_push.specs.Rule.{lambda_pushed}
 use Rattle.r_push.specs.WalkLaws.{push_change, WalkIsSweep}
 use Rattle.r_push.specs.Walk.{Exit, choice, shut, exit_of, is_loop, Walking, Cursor, WrittenNodes, WrittenRegion, WrittenRegions, grown, all_grown, outputs_of_left, after, at_start, walk_region, walk_regions, walk_nodes, walk_node}
 use Rattle.r_push.proofs.Grown.{all_grown_joined}
@@ -149,7 +149,7 @@ no_nodes_are given room k is args before w l at =
     nothing_reached given k.exit l (record l { body = room w.left (region_with (is_loop k.exit) w.left args before no_nodes k.results k.moved) }) w at.state
     (with_same l (room w.left (region_with (is_loop k.exit) w.left args before no_nodes k.results k.moved)) at.body)
 
-module _ (keeps : (n : ℕ) (l : PlainLambda) → IsWellFormed l → IsWellFormed (psh n l)) where
+module _ (keeps : (n : ℕ) (l : PlainLambda) → IsWellFormed l → IsWellFormed (lambda_pushed n l)) where
   nodes_are : (id : ℕ) (op : Op) (ins : List Origin) (rs : RegionTrees) (xs : NodeTrees) → RegionsAre rs → NodesAre xs → NodesAre (node_then (node id op ins rs) xs)
   nodes_are id op ins rs xs h g given room k is args before w l at =
       record {

@@ -105,12 +105,12 @@ nodes_pushed values n (node_then x ns) =
     option_or (option_map (λ part. joined_nodes part ns) (pushed_within values n x)) (option_map (node_then x) (nodes_pushed values n ns))
 
 -- the region of the first Gamma or Theta that node n may leave
-abbrev pub psh_here : (values n : ℕ) → RegionTree → Option RegionTree
-psh_here values n (region args nodes results) = option_map (λ ns. region args ns results) (nodes_pushed values n nodes)
+abbrev pub push_here : (values n : ℕ) → RegionTree → Option RegionTree
+push_here values n (region args nodes results) = option_map (λ ns. region args ns results) (nodes_pushed values n nodes)
 
 -- whether the rule applies at a node, and the changed lambda
 abbrev pub applies : PlainLambda → ℕ → Bool
-applies l n = is_some (region_changed (psh_here (lambda_values l) n) l.body)
+applies l n = is_some (region_changed (push_here (lambda_values l) n) l.body)
 
-abbrev pub psh : ℕ → PlainLambda → PlainLambda
-psh n l = lambda_changed (psh_here (lambda_values l) n) l
+abbrev pub lambda_pushed : ℕ → PlainLambda → PlainLambda
+lambda_pushed n l = lambda_changed (push_here (lambda_values l) n) l

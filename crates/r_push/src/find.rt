@@ -5,7 +5,7 @@ ghost use Rattle.g_graph.specs.declared.op.Origin.TheVariants.{Out};
 ghost use Rattle.r_push.specs.Rule.{leaves_only};
 ghost use Rattle.g_graph.specs.Plain.{nodes_of, regions_of, results_of, has_none};
 ghost use Rattle.g_graph.specs.WellFormed.{all_of};
-ghost use Rattle.r_push.specs.Rule.{names_argument, may_leave, leaving, leaving_one, is_invariant, leaving_loop, pushed, growth, can_count, pushed_within, nodes_pushed, psh_here};
+ghost use Rattle.r_push.specs.Rule.{names_argument, may_leave, leaving, leaving_one, is_invariant, leaving_loop, pushed, growth, can_count, pushed_within, nodes_pushed, push_here};
 
 use g_graph::{Node, Op, Origin, Region, is_pure, is_used, node_at, same_origin};
 use r_edit::may_change_size;
@@ -13,7 +13,7 @@ use r_edit::may_change_size;
 /// Whether the node of this number may leave a Gamma or a Theta of the region, in a lambda of so
 /// many values.
 pub fn can_push(region: &Region, values: u64, id: u32) -> bool
-    ensures { result ≡ is_some (psh_here values id region.now) }
+    ensures { result ≡ is_some (push_here values id region.now) }
 {
     nodes_can_push(&region.nodes, values, id)
 }

@@ -7,7 +7,7 @@ ghost use Rattle.g_graph.specs.Plain.{nodes_of, regions_of, regions_in, inputs_i
 ghost use Rattle.g_graph.specs.Replace.{node_redirected};
 ghost use Rattle.g_graph.specs.Splice.{args_to_inputs};
 ghost use Rattle.r_push.specs.Edit.{left, outer, push_index, widened_by, is_loop, all_longer};
-ghost use Rattle.r_push.specs.Rule.{can_count, nodes_pushed, psh_here};
+ghost use Rattle.r_push.specs.Rule.{can_count, nodes_pushed, push_here};
 
 use crate::carry::carry_all;
 use crate::find::{can_leave, first_output};
@@ -22,8 +22,8 @@ use std::alloc::Global;
 /// in a lambda of so many values, and answers whether there was one.
 pub fn push(alloc: Global, region: &mut Region, values: u64, id: u32) -> Result<bool, NoMemory>
     ensures ok { IfOk result (λ done.
-        MatchBool done (psh_here values id region.old ≡ Some region.new)
-        ((psh_here values id region.old ≡ None) × (region.new ≡ region.old))) }
+        MatchBool done (push_here values id region.old ≡ Some region.new)
+        ((push_here values id region.old ≡ None) × (region.new ≡ region.old))) }
     ensures err { OnErr result (region.new ≡ region.old) }
 {
     push_nodes(alloc, &mut region.nodes, values, id)

@@ -4,7 +4,7 @@ ghost use Rattle.std.specs.Prelude.{◌≡◌, List, OnOk, OnErr, IsTrue};
 ghost use Rattle.g_graph.specs.Plain.{PlainLambda};
 ghost use Rattle.g_graph.specs.WellFormed.{IsWellFormed};
 ghost use Rattle.r_edit.specs.Steps.{MayStandFor};
-ghost use Rattle.r_push.specs.Rule.{psh_here, applies, psh};
+ghost use Rattle.r_push.specs.Rule.{push_here, applies, lambda_pushed};
 
 use crate::find::can_push;
 use crate::push::push;
@@ -37,7 +37,7 @@ pub fn applies(lambda: &Lambda, node: u32) -> bool
 pub fn apply(alloc: Global, lambda: &mut Lambda, node: u32) -> Result<(), NoMemory>
     requires well_formed { IsWellFormed lambda.old }
     requires applies { IsTrue (applies lambda.old node) }
-    ensures ok { OnOk result (lambda.new ≡ psh node lambda.old) }
+    ensures ok { OnOk result (lambda.new ≡ lambda_pushed node lambda.old) }
     ensures step { OnOk result ((held : List PlainLambda) →
         MayStandFor held lambda.old lambda.new) }
     ensures err { OnErr result (lambda.new ≡ lambda.old) }
@@ -59,7 +59,7 @@ impl RegionRule for Pushing {
 
     type Fault = NoMemory;
 
-    ghost here = { λ r. psh_here r.values r.node };
+    ghost here = { λ r. push_here r.values r.node };
 
     fn can(&self, region: &Region) -> bool {
         can_push(region, self.values, self.node)

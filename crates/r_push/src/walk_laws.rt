@@ -6,5 +6,5 @@ ghost use Rattle.r_push.specs.WalkLaws.{WalkIsSweep};
 pub fn walk_is_sweep()
     ensures { WalkIsSweep }
 {
-    crate::laws::psh_keeps_meaning();
+    crate::laws::push_keeps_meaning();
 }

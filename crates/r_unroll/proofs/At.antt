@@ -10,7 +10,7 @@ use Rattle.g_graph.specs.Nodes.{node_at, node_set}
 use Rattle.g_graph.specs.Splice.{joined_nodes}
 use Rattle.g_graph.proofs.lemmas.Found.{found_at}
 use Rattle.r_edit.proofs.lemmas.Loops.{loop_node}
-use Rattle.r_unroll.specs.Rule.{unrolled, may_unroll, node_unrolled, url_here}
+use Rattle.r_unroll.specs.Rule.{unrolled, may_unroll, node_unrolled, unroll_here}
 
 record IsUnrolled (values next : ℕ) (x y : NodeTree) : Type 0 where
   id : ℕ
@@ -40,7 +40,7 @@ pub record Unrolls (values next n : ℕ) (args : List Kind) (nodes : NodeTrees) 
   pub whole : nodes ≡ joined_nodes before (node_then (loop_node n inputs body) after)
   pub result : s ≡ region args (joined_nodes before (node_then (loop_node n inputs (unrolled next body)) after)) results
 
-pub unrolls-at : (values next n : ℕ) (args : List Kind) (nodes : NodeTrees) (results : List Origin) (s : RegionTree) → url_here values next n (region args nodes results) ≡ Some s →
+pub unrolls-at : (values next n : ℕ) (args : List Kind) (nodes : NodeTrees) (results : List Origin) (s : RegionTree) → unroll_here values next n (region args nodes results) ≡ Some s →
     Unrolls values next n args nodes results s
 unrolls-at values next n args nodes results s e = by (node_at n nodes) refl e
   where

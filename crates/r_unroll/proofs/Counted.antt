@@ -10,7 +10,7 @@ use Rattle.r_edit.specs.Numbering.{node_count}
 use Rattle.g_graph.specs.Nodes.{node_at, node_set}
 use Rattle.r_edit.proofs.lemmas.Size.{saturated-decides}
 use Rattle.r_unroll.specs.Edit.{small_body, only_body, loop_body, loop_at}
-use Rattle.r_unroll.specs.Rule.{growth, may_unroll, unrolled, region_loops, node_unrolled, url_here}
+use Rattle.r_unroll.specs.Rule.{growth, may_unroll, unrolled, region_loops, node_unrolled, unroll_here}
 
 -- ---- the only region of a node
 
@@ -36,7 +36,7 @@ found-changes values next (node id Theta inputs no_regions) = refl
 found-changes values next (node id Theta inputs (region_then r (region_then t rs))) = refl
 found-changes values next (node id _ inputs rs) = refl
 
-pub here_found : (values next n : ℕ) (r : RegionTree) → is_some (loop_at values next n r) ≡ is_some (url_here values next n r)
+pub here_found : (values next n : ℕ) (r : RegionTree) → is_some (loop_at values next n r) ≡ is_some (unroll_here values next n r)
 here_found values next n (region args nodes results) = by (node_at n nodes)
   where
     later : (o : Option NodeTree) → is_some o ≡ is_some (option_map (λ y. region args (node_set n y nodes) results) o)
@@ -61,9 +61,9 @@ node-same v next (node id Theta inputs no_regions) = refl
 node-same v next (node id Theta inputs (region_then r (region_then t rs))) = refl
 node-same v next (node id _ inputs rs) = refl
 
-pub url-same : (v next n : ℕ) → url_here (saturated v) next n ≡ url_here v next n
-url-same v next n = fun_ext (λ r. by r)
+pub unroll-same : (v next n : ℕ) → unroll_here (saturated v) next n ≡ unroll_here v next n
+unroll-same v next n = fun_ext (λ r. by r)
   where
-    by : (r : RegionTree) → url_here (saturated v) next n r ≡ url_here v next n r
+    by : (r : RegionTree) → unroll_here (saturated v) next n r ≡ unroll_here v next n r
     by (region args nodes results) =
         ap (λ f. option_map (λ y. region args (node_set n y nodes) results) (option_and_then f (node_at n nodes))) (fun_ext (λ x. node-same v next x))

@@ -11,7 +11,7 @@ use Rattle.g_graph.specs.Plain.{RegionTree, region, NodeTree, node, no_regions, 
 use Rattle.g_graph.specs.Count.{region_values}
 use Rattle.g_graph.specs.Program.{lambda_values}
 use Rattle.g_graph.specs.WellFormed.{well_formed}
-use Rattle.r_unroll.specs.Rule.{may_unroll, applies, url}
+use Rattle.r_unroll.specs.Rule.{may_unroll, applies, lambda_unrolled}
 
 abbrev plain : ℕ → Op → List Origin → NodeTree
 plain id op inputs = node id op inputs no_regions
@@ -43,7 +43,7 @@ counting next loop =
 abbrev row : PlainLambda
 row = counting 6 (turn 2)
 
-row_unrolled : url 1 row
+row_unrolled : lambda_unrolled 1 row
     ≡ counting 12 (region three (nodes_of (adding 2
     ++ node 6 Gamma (Out 5 0 ∷ Out 3 0 ∷ Arg 1 ∷ Arg 2 ∷ [])
     (regions_of (region three (nodes_of (plain 7 (Const 0) [] ∷ [])) (Out 7 0 ∷ Arg 0 ∷ Arg 1 ∷ Arg 2 ∷ []) ∷ turn 8 ∷ [])) ∷ []))
@@ -54,10 +54,10 @@ row_unrolled = refl
 applies_once : (applies row 1 ≡ true) × (applies row 0 ≡ false) × (applies row 2 ≡ false) × (applies row 5 ≡ false) × (applies row 6 ≡ false)
 applies_once = (refl, refl, refl, refl, refl)
 
-both_fit : (well_formed row ≡ true) × (well_formed (url 1 row) ≡ true)
+both_fit : (well_formed row ≡ true) × (well_formed (lambda_unrolled 1 row) ≡ true)
 both_fit = (refl, refl)
 
-before_after : (lambda_values row ≡ 28) × (lambda_values (url 1 row) ≡ 59)
+before_after : (lambda_values row ≡ 28) × (lambda_values (lambda_unrolled 1 row) ≡ 59)
 before_after = (refl, refl)
 
 -- ---- the limits

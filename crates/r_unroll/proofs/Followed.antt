@@ -13,7 +13,7 @@ use Rattle.g_graph.proofs.lemmas.Found.{node_set_at}
 use Rattle.g_graph.proofs.lemmas.Splices.{index_within}
 use Rattle.r_edit.proofs.lemmas.Loops.{loop_node}
 use Rattle.r_unroll.specs.Edit.{only_followed, node_followed, followed_at}
-use Rattle.r_unroll.specs.Rule.{unrolled, followed_by, may_unroll, node_unrolled, url_here}
+use Rattle.r_unroll.specs.Rule.{unrolled, followed_by, may_unroll, node_unrolled, unroll_here}
 use Rattle.g_graph.proofs.lemmas.Change.{is_some_map}
 
 -- ---- indexes
@@ -74,7 +74,7 @@ one-region values next id Theta inputs (r ∷ []) e = refl
 one-region values next id Theta inputs (r ∷ s ∷ rs) e = absurd cc
 one-region values next id _ inputs rs e = absurd cc
 
-module _ (values next n p : ℕ) (args : List Kind) (xs : List NodeTree) (results : List Origin) (can : is_some (url_here values next n (region args (nodes_of xs) results)) ≡ true) where
+module _ (values next n p : ℕ) (args : List Kind) (xs : List NodeTree) (results : List Origin) (can : is_some (unroll_here values next n (region args (nodes_of xs) results)) ≡ true) where
   some-at : (x : NodeTree) → node_at n (nodes_of xs) ≡ Some x → is_some (node_unrolled values next x) ≡ true
   some-at x d =
       sym (is_some_map (λ y. region args (node_set n y (nodes_of xs)) results) (node_unrolled values next x))

@@ -24,7 +24,7 @@ use Rattle.r_edit.specs.Numbering.{number_from, node_count, region_numbered}
 use Rattle.r_edit.proofs.lemmas.Numbering.{copied-ids}
 use Rattle.r_edit.proofs.lemmas.Loops.{loop_node}
 use Rattle.r_edit.specs.Origins.{origins_from}
-use Rattle.r_unroll.specs.Rule.{followed_by, second_turn_of, unrolled, may_unroll, node_unrolled, url_here, url}
+use Rattle.r_unroll.specs.Rule.{followed_by, second_turn_of, unrolled, may_unroll, node_unrolled, unroll_here, lambda_unrolled}
 use Rattle.r_unroll.specs.Edit.{loop_body, loop_at, node_followed, followed_at}
 use Rattle.r_unroll.proofs.Counted.{here_found}
 
@@ -124,7 +124,7 @@ module _ (values next n : ℕ) (y : RegionTree) where
   abbrev outs : List Origin
   outs = origins_from (Out next) 0 (length (results_of y))
 
-  base : (t : RegionTree) → Only y (loop_at values next n t) → Agree (loop_at values next n t) (url_here values next n t) (made values next n y t)
+  base : (t : RegionTree) → Only y (loop_at values next n t) → Agree (loop_at values next n t) (unroll_here values next n t) (made values next n y t)
   base (region args nodes results) only = by (node_at n nodes) only
     where
       with_node : NodeTree → RegionTree
@@ -153,12 +153,12 @@ module _ (values next n : ℕ) (y : RegionTree) where
       by (Some (node id _ inputs rs)) only = inl (refl, refl, refl)
 
   pub made-changes : (r : RegionTree) → region_found (loop_at values next n) r ≡ Some y →
-      (s : RegionTree) × (region_changed (url_here values next n) r ≡ Some s) × (region_changed (made values next n y) r ≡ Some s)
-  made-changes r e = both-change (loop_at values next n) (url_here values next n) (made values next n y) y base r e
+      (s : RegionTree) × (region_changed (unroll_here values next n) r ≡ Some s) × (region_changed (made values next n y) r ≡ Some s)
+  made-changes r e = both-change (loop_at values next n) (unroll_here values next n) (made values next n y) y base r e
 
 -- where the rule applies something is found
-pub found-some : (values next n : ℕ) (r : RegionTree) → is_some (region_changed (url_here values next n) r) ≡ true → is_some (region_found (loop_at values next n) r) ≡ true
-found-some values next n r e = found-where-changed (loop_at values next n) (url_here values next n) (here_found values next n) r e
+pub found-some : (values next n : ℕ) (r : RegionTree) → is_some (region_changed (unroll_here values next n) r) ≡ true → is_some (region_found (loop_at values next n) r) ≡ true
+found-some values next n r e = found-where-changed (loop_at values next n) (unroll_here values next n) (here_found values next n) r e
 
 -- ---- numbers in number
 
@@ -242,9 +242,9 @@ module _ (values next n : ℕ) (last : NodeTree) (outs : List Origin) where
       )
 
 -- The lambda that comes where the first loop that is found is given what was made of it.
-pub url-made : (n : ℕ) (l : PlainLambda) (y : RegionTree) → every_region (region_fits (length l.objects)) l.body ≡ true → region_found (loop_at (lambda_values l) l.next n) l.body ≡ Some y →
-    url n l ≡ record l { body = unwrap_or (region_changed (made (lambda_values l) l.next n y) l.body) l.body; next = l.next + 2 + node_count y }
-url-made n l y fits e =
+pub unroll-made : (n : ℕ) (l : PlainLambda) (y : RegionTree) → every_region (region_fits (length l.objects)) l.body ≡ true → region_found (loop_at (lambda_values l) l.next n) l.body ≡ Some y →
+    lambda_unrolled n l ≡ record l { body = unwrap_or (region_changed (made (lambda_values l) l.next n y) l.body) l.body; next = l.next + 2 + node_count y }
+unroll-made n l y fits e =
     let c = made-changes (lambda_values l) l.next n y l.body e in
     let count = changed-count (lambda_values l) l.next n (second_turn_of l.next y) (origins_from (Out l.next) 0 (length (results_of y))) (length l.objects) l.body c.0 c.2 fits in
     let next : l.next + (node_count c.0 - node_count l.body) ≡ l.next + 2 + node_count y = omega (arith, count, turn-count l.next y) in

@@ -39,12 +39,12 @@ use Rattle.r_edit.proofs.lemmas.Swapped.{RegionStays}
 use Rattle.r_edit.proofs.lemmas.Loops.{loop_node}
 use Rattle.r_edit.proofs.lemmas.Consecutive.{length-from}
 use Rattle.r_edit.specs.Origins.{origins_from}
-use Rattle.r_unroll.specs.Rule.{stopping, unrolled, region_loops, growth, url_here, body_unrolled, url}
-use Rattle.r_unroll.specs.Laws.{UrlIsAStep}
+use Rattle.r_unroll.specs.Rule.{stopping, unrolled, region_loops, growth, unroll_here, body_unrolled, lambda_unrolled}
+use Rattle.r_unroll.specs.Laws.{UnrollIsAStep}
 use Rattle.r_unroll.proofs.At.{unrolls-at}
 use Rattle.r_unroll.proofs.Fits.{unrolled-results, unrolled-fits}
 use Rattle.r_unroll.proofs.Numbers.{Adds, unrolled-ids, adds-here, adds-within, adds-once}
-use Rattle.r_unroll.proofs.Replaced.{url_replaces}
+use Rattle.r_unroll.proofs.Replaced.{unroll_replaces}
 
 -- ---- the region that holds the loop
 
@@ -105,7 +105,7 @@ record Kept (l : PlainLambda) (r s : RegionTree) : Type 0 where
   stays : RegionStays (length l.objects) r s
   adds : Adds l.next count (region_ids r) (region_ids s)
 
-here-keeps : (values n : ℕ) (l : PlainLambda) (r s : RegionTree) → url_here values l.next n r ≡ Some s → every_region (region_fits (length l.objects)) r ≡ true → Numbered l.next (region_ids r) →
+here-keeps : (values n : ℕ) (l : PlainLambda) (r s : RegionTree) → unroll_here values l.next n r ≡ Some s → every_region (region_fits (length l.objects)) r ≡ true → Numbered l.next (region_ids r) →
     Kept l r s
 here-keeps values n l (region args ns results) s e fits numbers =
     let at = unrolls-at values l.next n args ns results s e in
@@ -127,11 +127,11 @@ here-keeps values n l (region args ns results) s e fits numbers =
 
 -- ---- the lambda
 
-pub url_well_formed : (n : ℕ) (l : PlainLambda) → IsWellFormed l → IsWellFormed (url n l)
-url_well_formed n l w = by_change (body_unrolled n l) refl
+pub unroll_well_formed : (n : ℕ) (l : PlainLambda) → IsWellFormed l → IsWellFormed (lambda_unrolled n l)
+unroll_well_formed n l w = by_change (body_unrolled n l) refl
   where
     f : RegionTree → Option RegionTree
-    f = url_here (lambda_values l) l.next n
+    f = unroll_here (lambda_values l) l.next n
 
     objects : ℕ
     objects = length l.objects
@@ -172,7 +172,7 @@ module _ (p : Op → ℕ → Type 0) (const : (w m : ℕ) → p (Const w) m) (ga
       joined_ops p nodes (node_then (node next Gamma results (region_then (stopping (suc next) args) (region_then (region_numbered (next + 2) (region args nodes results)) no_regions))) no_nodes) h
       ((gamma (length results), (((const 0 0, tt), tt), (numbered-ops p (next + 2) (region args nodes results) h, tt))), tt)
 
-  here-ops : (values next n : ℕ) (r s : RegionTree) → url_here values next n r ≡ Some s → RegionOps p r → RegionOps p s
+  here-ops : (values next n : ℕ) (r s : RegionTree) → unroll_here values next n r ≡ Some s → RegionOps p r → RegionOps p s
   here-ops values next n (region args nodes results) s e h =
       let at = unrolls-at values next n args nodes results s e in
       let own = found_ops p n nodes (loop_node n at.inputs at.body) at.found h in
@@ -194,7 +194,7 @@ unrolled-values next (region args nodes results) =
       length-map stop (known args (node_then (node (suc next) (Const 0) [] no_regions) no_nodes)),
     )
 
-here-resized : (values next n : ℕ) (r s : RegionTree) → url_here values next n r ≡ Some s → IsResized values r s
+here-resized : (values next n : ℕ) (r s : RegionTree) → unroll_here values next n r ≡ Some s → IsResized values r s
 here-resized values next n (region args ns results) s e =
     let at = unrolls-at values next n args ns results s e in
     by at.before at.inputs at.after at.body
@@ -222,14 +222,14 @@ here-resized values next n (region args ns results) s e =
 
 -- ---- the step
 
-edited : (n : ℕ) (l : PlainLambda) → IsEdited (url_here (lambda_values l) l.next n) l (url n l)
+edited : (n : ℕ) (l : PlainLambda) → IsEdited (unroll_here (lambda_values l) l.next n) l (lambda_unrolled n l)
 edited n l = record { number = refl; params = refl; objects = refl; body = refl }
 
-pub url_is_a_step : UrlIsAStep
-url_is_a_step held n l well =
-    safe_changes_are_steps (url_here (lambda_values l) l.next n) l (url n l) well (url_well_formed n l well) (edited n l)
+pub unroll_is_a_step : UnrollIsAStep
+unroll_is_a_step held n l well =
+    safe_changes_are_steps (unroll_here (lambda_values l) l.next n) l (lambda_unrolled n l) well (unroll_well_formed n l well) (edited n l)
     (record {
-      replaces = λ ls ks r s part e. url_replaces ls ks (lambda_values l) l.next n l r s part e;
+      replaces = λ ls ks r s part e. unroll_replaces ls ks (lambda_values l) l.next n l r s part e;
       calls = λ ls r s e h. here-ops (Calls ls) (λ w m. tt) (λ m. tt) (lambda_values l) l.next n r s e h;
       names = λ globals r s e h. here-ops (NamesGlobal globals) (λ w m. tt) (λ m. tt) (lambda_values l) l.next n r s e h;
       resized = λ r s e. here-resized (lambda_values l) l.next n r s e;

@@ -18,7 +18,7 @@ use Rattle.g_mean.proofs.lemmas.Copies.{among-split}
 use Rattle.r_edit.specs.Numbering.{node_count, number_from, region_numbered}
 use Rattle.r_edit.proofs.lemmas.Numbering.{copied-ids}
 use Rattle.r_walk.proofs.lemmas.Copies.{copies_are_new}
-use Rattle.r_unroll.specs.Rule.{region_loops, node_loops, nodes_loop, regions_loop, second_turn_of, unrolled, node_unrolled, url_here}
+use Rattle.r_unroll.specs.Rule.{region_loops, node_loops, nodes_loop, regions_loop, second_turn_of, unrolled, node_unrolled, unroll_here}
 
 -- ---- no loop
 
@@ -40,18 +40,18 @@ none-at values next n (node_then x ns) e = by (id_of x == n) (none-at values nex
 
 module _ (values next n : ℕ) where
   mutual
-    pub unchanged_without_loops : (r : RegionTree) → region_loops r ≡ false → region_changed (url_here values next n) r ≡ None
+    pub unchanged_without_loops : (r : RegionTree) → region_loops r ≡ false → region_changed (unroll_here values next n) r ≡ None
     unchanged_without_loops (region args nodes results) e =
         ap₂ (λ a b. option_or (option_map (λ y. region args (node_set n y nodes) results) a) (option_map (λ ns. region args ns results) b)) (none-at values next n nodes e) (nodes-unchanged nodes e)
 
-    nodes-unchanged : (ns : NodeTrees) → nodes_loop ns ≡ false → nodes_changed (url_here values next n) ns ≡ None
+    nodes-unchanged : (ns : NodeTrees) → nodes_loop ns ≡ false → nodes_changed (unroll_here values next n) ns ≡ None
     nodes-unchanged no_nodes e = refl
     nodes-unchanged (node_then (node id op inputs rs) ns) e =
         let p = or_parts (node_loops (node id op inputs rs)) (nodes_loop ns) e in
         ap₂ (λ a b. option_or (option_map (λ y. node_then y ns) (option_map (λ ss. node id op inputs ss) a)) (option_map (λ ys. node_then (node id op inputs rs) ys) b))
         (regions-unchanged rs (or_parts (same_op op Theta) (regions_loop rs) p.0).1) (nodes-unchanged ns p.1)
 
-    regions-unchanged : (rs : RegionTrees) → regions_loop rs ≡ false → regions_changed (url_here values next n) rs ≡ None
+    regions-unchanged : (rs : RegionTrees) → regions_loop rs ≡ false → regions_changed (unroll_here values next n) rs ≡ None
     regions-unchanged no_regions e = refl
     regions-unchanged (region_then r rs) e =
         let p = or_parts (region_loops r) (regions_loop rs) e in

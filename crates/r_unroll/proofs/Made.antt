@@ -21,9 +21,9 @@ use Rattle.r_edit.specs.Numbering.{node_count}
 use Rattle.r_edit.proofs.lemmas.Loops.{loop_node}
 use Rattle.r_edit.specs.Found.{region_found}
 use Rattle.r_unroll.specs.Edit.{loop_body, loop_at, node_followed, followed_at, results_after, next_after}
-use Rattle.r_unroll.specs.Rule.{followed_by, second_turn_of, region_loops, growth, applies, url}
+use Rattle.r_unroll.specs.Rule.{followed_by, second_turn_of, region_loops, growth, applies, lambda_unrolled}
 use Rattle.r_unroll.proofs.Counted.{may-same}
-use Rattle.r_unroll.proofs.Found.{found-loop, found-some, made, url-made}
+use Rattle.r_unroll.proofs.Found.{found-loop, found-some, made, unroll-made}
 use Rattle.g_graph.proofs.lemmas.Nests.{regions_of_well_formed}
 
 -- ---- the loop that is found
@@ -84,11 +84,11 @@ pub applies-finds : (v n : ℕ) (l : PlainLambda) → v ≡ saturated (lambda_va
 applies-finds v n l e a =
     ap (λ h. is_some (region_found h l.body)) (ap (λ u. loop_at u l.next n) e ∙ loop-same (lambda_values l) l.next n) ∙ found-some (lambda_values l) l.next n l.body a
 
-pub url-is : (v n : ℕ) (l k : PlainLambda) (last : NodeTree) (outs : List Origin) (next : ℕ) → v ≡ saturated (lambda_values l) → IsWellFormed l →
+pub unroll-is : (v n : ℕ) (l k : PlainLambda) (last : NodeTree) (outs : List Origin) (next : ℕ) → v ≡ saturated (lambda_values l) → IsWellFormed l →
     option_map (second_turn_of l.next) (region_found (loop_at v l.next n) l.body) ≡ Some last → option_map (results_after l.next) (region_found (loop_at v l.next n) l.body) ≡ Some outs →
     option_map (next_after l.next) (region_found (loop_at v l.next n) l.body) ≡ Some next → k ≡ lambda_changed (followed_at v l.next n last outs) l →
-    record k { next = next } ≡ url n l
-url-is v n l k last outs next e w one two three g = by (region_found (loop_at (lambda_values l) l.next n) l.body) refl (sym found ∙ one) (sym found' ∙ two) (sym found'' ∙ three)
+    record k { next = next } ≡ lambda_unrolled n l
+unroll-is v n l k last outs next e w one two three g = by (region_found (loop_at (lambda_values l) l.next n) l.body) refl (sym found ∙ one) (sym found' ∙ two) (sym found'' ∙ three)
   where
     same : loop_at v l.next n ≡ loop_at (lambda_values l) l.next n
     same = ap (λ u. loop_at u l.next n) e ∙ loop-same (lambda_values l) l.next n
@@ -106,7 +106,7 @@ url-is v n l k last outs next e w one two three g = by (region_found (loop_at (l
         option_map (second_turn_of l.next) (region_found (loop_at (lambda_values l) l.next n) l.body) ≡ Some last →
         option_map (results_after l.next) (region_found (loop_at (lambda_values l) l.next n) l.body) ≡ Some outs →
         option_map (next_after l.next) (region_found (loop_at (lambda_values l) l.next n) l.body) ≡ Some next →
-        record k { next = next } ≡ url n l
+        record k { next = next } ≡ lambda_unrolled n l
     by None d a b c =
         let no : None ≡ Some last = sym (ap (option_map (second_turn_of l.next)) d) ∙ a in
         absurd cc
@@ -116,4 +116,4 @@ url-is v n l k last outs next e w one two three g = by (region_found (loop_at (l
         let next_is : next_after l.next y ≡ next = same_Some (next_after l.next y) next (sym (ap (option_map (next_after l.next)) d) ∙ c) in
         let here : followed_at v l.next n last outs ≡ made (lambda_values l) l.next n y =
         ap (λ u. followed_at u l.next n last outs) e ∙ followed-same (lambda_values l) l.next n last outs ∙ (λ i. followed_at (lambda_values l) l.next n (sym last_is i) (sym outs_are i)) in
-        ap₂ (λ (m : PlainLambda) t. record m { next = t }) (g ∙ ap (λ h. lambda_changed h l) here) (sym next_is) ∙ sym (url-made n l y (regions_of_well_formed l w) d)
+        ap₂ (λ (m : PlainLambda) t. record m { next = t }) (g ∙ ap (λ h. lambda_changed h l) here) (sym next_is) ∙ sym (unroll-made n l y (regions_of_well_formed l w) d)

@@ -25,7 +25,7 @@ use Rattle.g_mean.proofs.lemmas.Redirects.{replaced_nodes_refine}
 use Rattle.g_mean.proofs.lemmas.Regions.{region-refines}
 use Rattle.r_edit.proofs.lemmas.Loops.{loop_node}
 use Rattle.r_unroll.specs.Rule.{unrolled}
-use Rattle.r_unroll.specs.Laws.{IsLoopRegion, AreTurnsUnrolled, UnrolledTurnsRefine, UrlReplaces}
+use Rattle.r_unroll.specs.Laws.{IsLoopRegion, AreTurnsUnrolled, UnrolledTurnsRefine, UnrollReplaces}
 use Rattle.r_unroll.proofs.At.{unrolls-at}
 use Rattle.r_unroll.proofs.Turns.{turns-refine}
 use Rattle.r_unroll.proofs.Unrolled.{unrolled_regions_take_two_turns}
@@ -68,8 +68,8 @@ module _ (ls ks : List PlainLambda) (next n : ℕ) (l : PlainLambda) (args : Lis
         };
       }
 
-pub url_replaces : UrlReplaces
-url_replaces ls ks values next n l (region args nodes results) s part e =
+pub unroll_replaces : UnrollReplaces
+unroll_replaces ls ks values next n l (region args nodes results) s part e =
     let at = unrolls-at values next n args nodes results s e in
     subst (Replaces ls ks (region args nodes results)) (sym at.result)
     (subst (λ ns. Replaces ls ks (region args ns results) (region args (joined_nodes at.before (node_then (loop_node n at.inputs (unrolled next at.body)) at.after)) results)) (sym at.whole)

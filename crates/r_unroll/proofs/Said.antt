@@ -20,7 +20,7 @@ use Rattle.g_mean.specs.Copies.{IsAmong}
 use Rattle.g_mean.proofs.lemmas.Copies.{among-left, among-split}
 use Rattle.r_edit.specs.Numbering.{node_count}
 use Rattle.r_edit.specs.Size.{may_change_size}
-use Rattle.r_unroll.specs.Rule.{region_loops, unrolled, growth, may_unroll, node_unrolled, url_here, body_unrolled, applies, with_body, url}
+use Rattle.r_unroll.specs.Rule.{region_loops, unrolled, growth, may_unroll, node_unrolled, unroll_here, body_unrolled, applies, with_body, lambda_unrolled}
 use Rattle.r_walk.specs.Context.{ChangesOnlyAt, IsContext}
 use Rattle.r_walk.specs.Laws.{region_with, Becomes, IsSaid}
 use Rattle.r_walk.proofs.lemmas.Local.{not_found, found_here, set_at, absent, not_before, changed_at, unchanged_at, count_now, unchanged_within}
@@ -28,7 +28,7 @@ use Rattle.r_unroll.specs.Asked.{part_of, unroll_asked}
 use Rattle.r_unroll.specs.WalkLaws.{unroll_change, UnrollIsLocal}
 use Rattle.r_unroll.proofs.Loops.{unchanged_without_loops, unrolled_has_no_loops, unrolled_count, unrolled_numbers}
 
-only_there : (values next n : ℕ) → ChangesOnlyAt n (url_here values next n)
+only_there : (values next n : ℕ) → ChangesOnlyAt n (unroll_here values next n)
 only_there values next n (region args nodes results) e =
     ap (λ o. option_map (λ y. region args (node_set n y nodes) results) (option_and_then (node_unrolled values next) o)) (not_found n nodes e)
 
@@ -49,7 +49,7 @@ module _ (l : PlainLambda) (context : RegionTree → RegionTree) (args : List Ki
   first : has_node (id_of x) before ≡ false
   first = not_before l context args before x after results around well at
 
-  here-is : url_here (lambda_values l) l.next (id_of x) (region args (joined_nodes before (node_then x after)) results)
+  here-is : unroll_here (lambda_values l) l.next (id_of x) (region args (joined_nodes before (node_then x after)) results)
       ≡ option_map (λ y. region args (node_set (id_of x) y (joined_nodes before (node_then x after))) results) (node_unrolled (lambda_values l) l.next x)
   here-is =
       ap (λ o. option_map (λ y. region args (node_set (id_of x) y (joined_nodes before (node_then x after))) results) (option_and_then (node_unrolled (lambda_values l) l.next) o))
@@ -58,12 +58,12 @@ module _ (l : PlainLambda) (context : RegionTree → RegionTree) (args : List Ki
   stays-so : node_unrolled (lambda_values l) l.next x ≡ None → applies l (id_of x) ≡ false
   stays-so e =
       ap is_some
-      (unchanged_at l context args before x after results around well at (url_here (lambda_values l) l.next (id_of x)) (only_there (lambda_values l) l.next (id_of x))
+      (unchanged_at l context args before x after results around well at (unroll_here (lambda_values l) l.next (id_of x)) (only_there (lambda_values l) l.next (id_of x))
       (here-is ∙ ap (option_map (λ y. region args (node_set (id_of x) y (joined_nodes before (node_then x after))) results)) e))
 
   becomes-body : (y : NodeTree) → node_unrolled (lambda_values l) l.next x ≡ Some y → body_unrolled (id_of x) l ≡ Some (context (region_with args before (id_of x) (node_then y no_nodes) [] after results))
   becomes-body y e =
-      changed_at l context args before x after results around well at (url_here (lambda_values l) l.next (id_of x)) (only_there (lambda_values l) l.next (id_of x))
+      changed_at l context args before x after results around well at (unroll_here (lambda_values l) l.next (id_of x)) (only_there (lambda_values l) l.next (id_of x))
       (region_with args before (id_of x) (node_then y no_nodes) [] after results)
       (here-is ∙ ap (option_map (λ y. region args (node_set (id_of x) y (joined_nodes before (node_then x after))) results)) e ∙ ap Some (set_at args before x after results first y))
 
@@ -97,17 +97,17 @@ module _ (l : PlainLambda) (context : RegionTree → RegionTree) (args : List Ki
         unrolled_count l.next r,
       )
 
-  url-is : url id l ≡ record l { body = now; next = l.next + (2 + node_count r) }
-  url-is = ap (λ o. with_body l (unwrap_or o l.body)) body-is ∙ ap (λ k. record l { body = now; next = l.next + k }) taken
+  unroll-is : lambda_unrolled id l ≡ record l { body = now; next = l.next + (2 + node_count r) }
+  unroll-is = ap (λ o. with_body l (unwrap_or o l.body)) body-is ∙ ap (λ k. record l { body = now; next = l.next + k }) taken
 
-  inert-so : (n : ℕ) → IsAmong n (regions_ids (region_then r no_regions)) → applies (url id l) n ≡ false
+  inert-so : (n : ℕ) → IsAmong n (regions_ids (region_then r no_regions)) → applies (lambda_unrolled id l) n ≡ false
   inert-so n within =
       let k : PlainLambda = record l { body = now; next = l.next + (2 + node_count r) } in
-      let f : RegionTree → Option RegionTree = url_here (lambda_values k) k.next n in
+      let f : RegionTree → Option RegionTree = unroll_here (lambda_values k) k.next n in
       let quiet : region_changed f (unrolled l.next r) ≡ None =
       unchanged_without_loops (lambda_values k) k.next n (unrolled l.next r) (unrolled_has_no_loops l.next r (no-loops (lambda_values l) l.next r may)) in
       let none : regions_changed f (region_then (unrolled l.next r) no_regions) ≡ None = ap (λ o. option_or (option_map (λ s. region_then s no_regions) o) None) quiet in
-      ap (λ j. applies j n) url-is
+      ap (λ j. applies j n) unroll-is
       ∙ ap is_some (unchanged_within l context args before x after results around well at Theta inputs (region_then (unrolled l.next r) no_regions) [] n f (only_there (lambda_values k) k.next n) within none)
 
   numbers-so : (n : ℕ) → n < l.next → IsAmong n (nodes_ids (node_then y no_nodes)) → IsAmong n (node_ids x)
@@ -125,7 +125,7 @@ module _ (l : PlainLambda) (context : RegionTree → RegionTree) (args : List Ki
   unrolls : Becomes unroll_change l context args before x after results (node_then y no_nodes) [] (2 + node_count r)
   unrolls = record {
     applies = ap is_some body-is;
-    changed = url-is;
+    changed = unroll-is;
     known = tt;
     numbers = numbers-so;
     inert = inert-so;
@@ -152,9 +152,9 @@ said-of l context args before (node id Theta inputs (region_then r (region_then 
     stays-so l context args before (node id Theta inputs (region_then r (region_then t rs))) after results around well at refl
 said-of l context args before (node id op inputs rs) after results uses around well at = stays-so l context args before (node id op inputs rs) after results around well at refl
 
-pub unroll_is_local : ((n : ℕ) (l : PlainLambda) → IsWellFormed l → IsWellFormed (url n l)) → UnrollIsLocal
+pub unroll_is_local : ((n : ℕ) (l : PlainLambda) → IsWellFormed l → IsWellFormed (lambda_unrolled n l)) → UnrollIsLocal
 unroll_is_local keeps = record {
   keeps = λ l n well may. keeps n l well;
-  absent = λ l n h. ap is_some (absent l n (url_here (lambda_values l) l.next n) (only_there (lambda_values l) l.next n) h);
+  absent = λ l n h. ap is_some (absent l n (unroll_here (lambda_values l) l.next n) (only_there (lambda_values l) l.next n) h);
   said = λ l context args before x after results uses around well at same. said-of l context args before x after results uses around well at;
 }

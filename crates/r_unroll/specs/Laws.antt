@@ -13,7 +13,7 @@ use Rattle.g_mean.specs.Copies.{IsClosed}
 use Rattle.g_mean.specs.Edits.{IsPartOf}
 use Rattle.g_mean.specs.Replacement.{Replaces}
 use Rattle.r_edit.specs.Steps.{MayStandFor}
-use Rattle.r_unroll.specs.Rule.{unrolled, url_here, url}
+use Rattle.r_unroll.specs.Rule.{unrolled, unroll_here, lambda_unrolled}
 
 -- ---- turns
 
@@ -46,10 +46,10 @@ UnrolledTurnsRefine =
 -- ---- regions and lambdas
 
 -- a changed region of a well-formed lambda may replace the old one, in any lambdas
-abbrev pub UrlReplaces : Type 0
-UrlReplaces =
-    (ls ks : List PlainLambda) (values next n : ℕ) (l : PlainLambda) (r s : RegionTree) → IsPartOf l r → url_here values next n r ≡ Some s → Replaces ls ks r s
+abbrev pub UnrollReplaces : Type 0
+UnrollReplaces =
+    (ls ks : List PlainLambda) (values next n : ℕ) (l : PlainLambda) (r s : RegionTree) → IsPartOf l r → unroll_here values next n r ≡ Some s → Replaces ls ks r s
 
 -- The rule is a step: the lambda stays well formed, may stand for the old one in any list, and is no larger or small.
-abbrev pub UrlIsAStep : Type 0
-UrlIsAStep = (held : List PlainLambda) (n : ℕ) (l : PlainLambda) → IsWellFormed l → MayStandFor held l (url n l)
+abbrev pub UnrollIsAStep : Type 0
+UnrollIsAStep = (held : List PlainLambda) (n : ℕ) (l : PlainLambda) → IsWellFormed l → MayStandFor held l (lambda_unrolled n l)

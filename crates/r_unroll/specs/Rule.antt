@@ -73,13 +73,13 @@ node_unrolled values next (node id Theta inputs (region_then r no_regions)) =
 node_unrolled values next x = None
 
 -- the region that holds the Theta of number n
-abbrev pub url_here : (values next n : ℕ) → RegionTree → Option RegionTree
-url_here values next n (region args nodes results) =
+abbrev pub unroll_here : (values next n : ℕ) → RegionTree → Option RegionTree
+unroll_here values next n (region args nodes results) =
     option_map (λ y. region args (node_set n y nodes) results) (option_and_then (node_unrolled values next) (node_at n nodes))
 
 -- the body changed so, where it can be
 abbrev pub body_unrolled : ℕ → PlainLambda → Option RegionTree
-body_unrolled n l = region_changed (url_here (lambda_values l) l.next n) l.body
+body_unrolled n l = region_changed (unroll_here (lambda_values l) l.next n) l.body
 
 -- whether the rule applies at a node
 abbrev pub applies : PlainLambda → ℕ → Bool
@@ -90,5 +90,5 @@ abbrev pub with_body : PlainLambda → RegionTree → PlainLambda
 with_body l body = record l { body = body; next = l.next + (node_count body - node_count l.body) }
 
 -- the changed lambda
-abbrev pub url : ℕ → PlainLambda → PlainLambda
-url n l = with_body l (unwrap_or (body_unrolled n l) l.body)
+abbrev pub lambda_unrolled : ℕ → PlainLambda → PlainLambda
+lambda_unrolled n l = with_body l (unwrap_or (body_unrolled n l) l.body)

@@ -7,7 +7,7 @@ ghost use Rattle.g_graph.specs.Plain.{regions_of};
 ghost use Rattle.r_edit.specs.Found.{region_found, node_found};
 ghost use Rattle.r_edit.specs.Numbering.{node_count};
 ghost use Rattle.r_unroll.specs.Edit.{small_body, only_body, loop_body, loop_at};
-ghost use Rattle.r_unroll.specs.Rule.{region_loops, node_loops, growth, may_unroll, url_here};
+ghost use Rattle.r_unroll.specs.Rule.{region_loops, node_loops, growth, may_unroll, unroll_here};
 
 use base::MOST_LOOP_VALUES;
 use g_graph::{Node, Op, Region, node_at};
@@ -55,7 +55,7 @@ pub fn loop_at(region: &Region, values: u64, next: u32, id: u32) -> Option<&Regi
 /// Whether the region itself holds a loop of this number that may be unrolled.
 #[tactic(auto, using(crate::proofs::Counted::here_found))]
 pub fn can_unroll(region: &Region, values: u64, next: u32, id: u32) -> bool
-    ensures { result ≡ is_some (url_here values next id region.now) }
+    ensures { result ≡ is_some (unroll_here values next id region.now) }
 {
     match loop_at(region, values, next, id) {
         Some(_) => true,

@@ -5,7 +5,7 @@ ghost use Rattle.std.specs.declared.option.Option.TheVariants.{Some};
 ghost use Rattle.g_graph.specs.declared.op.Op.TheVariants.{Undef};
 ghost use Rattle.g_graph.specs.Plain.{node, no_regions, regions_of};
 ghost use Rattle.r_unroll.specs.Edit.{only_followed, followed_at};
-ghost use Rattle.r_unroll.specs.Rule.{url_here, followed_by};
+ghost use Rattle.r_unroll.specs.Rule.{unroll_here, followed_by};
 
 use base::NoMemory;
 use g_graph::{Node, Op, Origin, Region, node_index};
@@ -33,7 +33,7 @@ pub fn follow_at(
     last: Node,
     results: Vec<Origin>,
 ) -> Result<(), NoMemory>
-    requires { IsTrue (is_some (url_here values next id region.old)) }
+    requires { IsTrue (is_some (unroll_here values next id region.old)) }
     ensures ok { OnOk result (followed_at values next id last results.items region.old ≡
         Some region.new) }
     ensures err { OnErr result (region.new ≡ region.old) }

@@ -6,7 +6,7 @@ ghost use Rattle.g_graph.specs.Plain.{PlainLambda};
 ghost use Rattle.g_graph.specs.WellFormed.{IsWellFormed};
 ghost use Rattle.r_edit.specs.Steps.{MayStandFor};
 ghost use Rattle.r_unroll.specs.Edit.{followed_at};
-ghost use Rattle.r_unroll.specs.Rule.{url_here, applies, url};
+ghost use Rattle.r_unroll.specs.Rule.{unroll_here, applies, lambda_unrolled};
 
 use crate::find::can_unroll;
 use crate::follow::{follow_at, nothing};
@@ -32,7 +32,7 @@ pub fn applies(lambda: &Lambda, node: u32) -> bool
 // Whether it applies in a lambda of so many values.
 fn applies_in(lambda: &Lambda, values: u64, node: u32) -> bool
     ensures { result ≡
-        is_some (region_changed (url_here values lambda.now.next node) lambda.now.body) }
+        is_some (region_changed (unroll_here values lambda.now.next node) lambda.now.body) }
 {
     can_change_lambda(
         lambda,
@@ -51,7 +51,7 @@ fn applies_in(lambda: &Lambda, values: u64, node: u32) -> bool
 pub fn apply(alloc: Global, lambda: &mut Lambda, node: u32) -> Result<(), NoMemory>
     requires well_formed { IsWellFormed lambda.old }
     requires applies { IsTrue (applies lambda.old node) }
-    ensures ok { OnOk result (lambda.new ≡ url node lambda.old) }
+    ensures ok { OnOk result (lambda.new ≡ lambda_unrolled node lambda.old) }
     ensures step { OnOk result ((held : List PlainLambda) →
         MayStandFor held lambda.old lambda.new) }
     ensures err { OnErr result (lambda.new ≡ lambda.old) }
@@ -83,7 +83,7 @@ struct Unrolled {
 }
 
 impl CanChange for Unrolled {
-    ghost changed = { λ c. url_here c.values c.next c.node };
+    ghost changed = { λ c. unroll_here c.values c.next c.node };
 
     fn can_change(&self, region: &Region) -> bool {
         can_unroll(region, self.values, self.next, self.node)

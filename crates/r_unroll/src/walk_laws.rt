@@ -7,5 +7,5 @@ ghost use Rattle.r_unroll.specs.WalkLaws.{UnrollIsLocal};
 pub fn unroll_is_local()
     ensures { UnrollIsLocal }
 {
-    crate::laws::url_keeps_meaning();
+    crate::laws::unroll_keeps_meaning();
 }

@@ -2,12 +2,12 @@ use Rattle.std.specs.Prelude.{is_some}
 use Rattle.std.proofs.Common.{ap, ◌∙◌}
 use Rattle.g_graph.specs.Change.{region_changed}
 use Rattle.g_graph.specs.Program.{lambda_values}
-use Rattle.r_unroll.specs.Rule.{url_here}
-use Rattle.r_unroll.proofs.Counted.{url-same}
+use Rattle.r_unroll.specs.Rule.{unroll_here}
+use Rattle.r_unroll.proofs.Counted.{unroll-same}
 use Rattle.r_unroll.proofs.rule.applies.Goals as goal
 
 pub returns : goal.returns
 returns c =
     c.applies_in.ensures
     ∙ ap (λ h. is_some (region_changed h c.args.lambda.now.body))
-    (ap (λ v. url_here v c.args.lambda.now.next c.args.node) c.values.ensures ∙ url-same (lambda_values c.args.lambda.now) c.args.lambda.now.next c.args.node)
+    (ap (λ v. unroll_here v c.args.lambda.now.next c.args.node) c.values.ensures ∙ unroll-same (lambda_values c.args.lambda.now) c.args.lambda.now.next c.args.node)
