@@ -3,8 +3,8 @@
 //! Both are those of the image of the source under the recipe. The sweeps are those that make the
 //! answer of the function, each in its numbers.
 //! Always: no arguments but those of the definition are a command. Functions are in source order,
-//! each once. A fault is that of the phase that refuses the source, out of memory apart.
-//! Functions are in source order, and sweeps in the order of the recipe.
+//! each once, and sweeps in the order of the recipe. A fault is that of the phase that refuses the
+//! source, out of memory apart.
 #![tactic(auto)]
 
 mod all;

@@ -1,7 +1,7 @@
 -- Functions, jobs and deps, one more at a time.
 use Rattle.std.proofs.Common.{◌≡◌, ◌<◌, ◌+◌, ◌++◌, ℕ, Bool, true, false, cond, List, [], ◌∷◌, Vec, Global, length, map, take, slice_index, slice_index_or, refl, sym, ap, ◌∙◌, arith, length-append}
 use Rattle.std.specs.List.{filter, range_with_len}
-use Rattle.std.proofs.lemmas.List.{take_more, map-append, get_or-map, get_or_default}
+use Rattle.std.proofs.lemmas.List.{take_more, map-append, get_or_default}
 use Rattle.std.proofs.lemmas.List.FromFn.{get_or-map-range_with_len}
 use Rattle.std.proofs.lemmas.List.Elements.{filter-append, filter_more}
 use Rattle.call_order.specs.Units.{call_lists}
@@ -74,10 +74,6 @@ pub job-read : (stale : List Bool) (jobs : List ℕ) (j : ℕ) → jobs ≡ map 
 job-read stale jobs j are inside =
     let at : 0 + j ≡ j = omega arith in
     ap (λ ks. slice_index ks j) are ∙ get_or-map-range_with_len (job_of stale) 0 (length stale) j j 0 inside at
-
--- the list of one function, in the plain lists
-pub row : (lists : List (Vec ℕ Global)) (j : ℕ) (v : Vec ℕ Global) → j < length lists → v ≡ slice_index_or lists j v → slice_index_or (call_lists lists) j [] ≡ v.items
-row lists j v inside is = get_or-map (λ (x : Vec ℕ Global). x.items) lists j v [] inside ∙ ap (λ (x : Vec ℕ Global). x.items) (sym is)
 
 pub lists-more : (f : ℕ → List ℕ) (xs : List ℕ) (i : ℕ) (before after : List (Vec ℕ Global)) (v : Vec ℕ Global) → i < length xs → call_lists before ≡ map f (take i xs) →
     v.items ≡ f (slice_index xs i) → after ≡ before ++ v ∷ [] → call_lists after ≡ map f (take (i + 1) xs)

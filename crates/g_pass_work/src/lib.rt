@@ -1,10 +1,10 @@
 //! A list of lambdas optimised by a board, whole or where it is stale.
 //! One worker makes them, or several.
-//! Promise: functions, ranks, deps and answers are those of `specs/Renewal`. A lemma says that
-//! the answers of the small program, put beside those that are kept, are the answers of the large
-//! one. The answers are those of the whole list. Only stale functions are given a job, and where
-//! none is stale no worker is hired. A function is stale exactly where its deps lead to a change.
-//! The results are the answers of the lambdas under the recipe, whoever makes them.
+//! Promise: the results are the answers of the whole list under the recipe, whoever makes them.
+//! A function is stale exactly where its deps lead to a change. Only stale functions are given a
+//! job, and where none is stale no worker is hired. Functions, ranks, deps and answers are those
+//! of `specs/Renewal`. A lemma says that the answers of the small program, put beside those that
+//! are kept, are the answers of the large one.
 //! Always: the result of a job is the answer of its function. A function that is not stale keeps
 //! its answer, under each table of rules and each recipe.
 #![tactic(auto)]

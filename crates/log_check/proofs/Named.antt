@@ -12,6 +12,7 @@ use Rattle.cc_watch.specs.Rows.{PlainRow}
 use Rattle.log_check.specs.Log.{line_count, parts_from, parts_of, row_of_part, rows_of, PlainPart}
 use Rattle.log_check.specs.Right.{part_at}
 use Rattle.log_check.specs.Judgement.{line_of, names_of_log, IsMisnamed}
+use Rattle.log_check.proofs.ReadSoFar.{count-push}
 use Rattle.log_check.proofs.Parting.{ends-apart, same-to-end}
 
 -- ---- names
@@ -32,10 +33,6 @@ pub record HasCome (p : ProgramTree) (log : List PlainPart) (index line : ℕ) :
   pub inside : index ≤ length p.functions
   pub same : AreSame p log index
   pub line_is : line ≡ line_of log index
-
-count-push : (rows : List PlainRow) (r : PlainRow) → line_count (rows ++ r ∷ []) ≡ line_count rows + suc (length r.steps)
-count-push [] r = omega arith
-count-push (q ∷ rows) r = omega (arith, count-push rows r)
 
 map-push : (xs : List PlainPart) (x : PlainPart) → rows_of (xs ++ x ∷ []) ≡ rows_of xs ++ row_of_part x ∷ []
 map-push [] x = refl

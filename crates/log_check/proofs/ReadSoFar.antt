@@ -62,7 +62,7 @@ map-push : {A B : Type 0} (f : A → B) (xs : List A) (x : A) → map f (xs ++ x
 map-push f [] x = refl
 map-push f (y ∷ xs) x = ap (λ t. f y ∷ t) (map-push f xs x)
 
-count-push : (rows : List PlainRow) (r : PlainRow) → line_count (rows ++ r ∷ []) ≡ line_count rows + suc (length r.steps)
+pub count-push : (rows : List PlainRow) (r : PlainRow) → line_count (rows ++ r ∷ []) ≡ line_count rows + suc (length r.steps)
 count-push [] r = omega arith
 count-push (q ∷ rows) r = omega (arith, count-push rows r)
 

@@ -1,11 +1,10 @@
 //! Logs of builds as certificates: their reading, their steps, and the judgement.
 //! Promise: bytes are read as the log that they are the text of, and a fault names the first line
-//! that is none of a log's. Yes comes where the log certifies the image, and each fault is the
-//! first that there is. The lambdas are those that the steps make, each count of the log is
-//! theirs, and a fault is the first one by rank, and within a rank by number.
+//! that is none of a log's. Yes comes where the log certifies the image: the lambdas are those
+//! that the steps make, and each count of the log is theirs. Each fault is the first that there
+//! is, of steps the first by rank, and within a rank by number.
 //! Always: bytes are the log of one list of functions at most. A source, a log and an image have
-//! one fault, or the log certifies the image. A log has one fault at most, and none where it is
-//! right.
+//! one fault, or the log certifies the image.
 #![tactic(auto)]
 
 mod callees;

@@ -2,8 +2,8 @@
 //! Promise: `apply` gives the changed lambda, which keeps its meaning in any program.
 //! `sweep_fast` makes of an arena and a log what a sweep of the rule makes of the lambda, and
 //! costs at most three looks for each value and each input of a node.
-//! Always: out of memory, the lambda is as it was. Out of memory, the arena stands for the lambda
-//! after the logged steps.
+//! Always: out of memory, the lambda is as it was. Where memory runs out in a sweep, the arena
+//! stands for the lambda after the logged steps.
 #![tactic(auto)]
 
 // It stands here and not in `r_dne`: the laws that it rests on stand over that crate.

@@ -3,7 +3,8 @@
 //! `sweep_fast` makes of an arena and a log what a sweep of the rule makes of the lambda, and
 //! costs at most three looks for each value and each input of a node.
 //! Always: out of memory, the lambda is as it was. The rule on the list of nodes of a lambda is
-//! the rule on the lambda. Out of memory, the arena stands for the lambda after the logged steps.
+//! the rule on the lambda. Where memory runs out in a sweep, the arena stands for the lambda after
+//! the logged steps.
 #![tactic(auto)]
 
 // It stands here and not in `r_inv`: the laws that it rests on stand over that crate.

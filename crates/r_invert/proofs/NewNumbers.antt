@@ -1,13 +1,11 @@
 -- How many numbers are new: none of the old ones, and all of those that come.
-use Rattle.std.specs.Prelude.{count_by, nat_le}
+use Rattle.std.specs.Prelude.{nat_le}
 use Rattle.std.proofs.Common.{◌≡◌, ℕ, ◌+◌, ◌<◌, ◌≤◌, false, true, cond, List, [], ◌∷◌, ◌++◌, length, refl, ap, ◌∙◌, inl, inr, arith}
 use Rattle.std.proofs.lemmas.Bool.Decides.{nat_tests}
 use Rattle.std.proofs.lemmas.List.Sums.{sum_by-cons, sum_by-append}
+use Rattle.r_invert.specs.Edit.{new_in}
 use Rattle.g_mean.specs.Copies.{IsAmong}
 use Rattle.g_mean.proofs.lemmas.Copies.{among-left, among-right}
-
-abbrev pub new_in : (next : ℕ) → List ℕ → ℕ
-new_in next ids = count_by (λ m. nat_le next m) ids
 
 new-append : (next : ℕ) (xs ys : List ℕ) → new_in next (xs ++ ys) ≡ new_in next xs + new_in next ys
 new-append next xs ys = sum_by-append (λ m. cond (nat_le next m) 1 0) xs ys

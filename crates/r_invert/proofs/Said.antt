@@ -21,7 +21,8 @@ use Rattle.r_walk.proofs.lemmas.Local.{not_found, found_here, replaced_at, ids_i
 use Rattle.r_invert.specs.Asked as asked
 use Rattle.r_invert.specs.Asked.{invert_asked}
 use Rattle.r_invert.specs.WalkLaws.{invert_change, InvertIsLocal}
-use Rattle.r_invert.proofs.NewNumbers.{new_in, new_within}
+use Rattle.r_invert.specs.Edit.{new_in}
+use Rattle.r_invert.proofs.NewNumbers.{new_within}
 use Rattle.r_invert.proofs.Inverted.{IsNew, is_new}
 
 only-there : (values next n : ℕ) → ChangesOnlyAt n (invert_here values next n)

@@ -31,11 +31,11 @@ nodes_times o (node_then (node id op inputs rs) ns) = times o inputs + nodes_tim
 abbrev pub region_times : Origin → RegionTree → ℕ
 region_times o (region args nodes results) = nodes_times o nodes + times o results
 
-input_both : (p : Place) (o : Origin) (xs ys : List FlatNode) → input_uses p o (xs ++ ys) ≡ input_uses p o xs + input_uses p o ys
+pub input_both : (p : Place) (o : Origin) (xs ys : List FlatNode) → input_uses p o (xs ++ ys) ≡ input_uses p o xs + input_uses p o ys
 input_both p o [] ys = omega arith
 input_both p o (x ∷ xs) ys = omega (arith, input_both p o xs ys)
 
-input_none : (p : Place) (o : Origin) (xs : List FlatNode) → AreApart p xs → input_uses p o xs ≡ 0
+pub input_none : (p : Place) (o : Origin) (xs : List FlatNode) → AreApart p xs → input_uses p o xs ≡ 0
 input_none p o [] h = refl
 input_none p o (x ∷ xs) h = ap (λ t. (if t then times o x.inputs else 0) + input_uses p o xs) h.0 ∙ omega (arith, input_none p o xs h.1)
 

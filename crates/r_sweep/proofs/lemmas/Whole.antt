@@ -19,12 +19,12 @@ use Rattle.g_arena_def.specs.Reads.{found, region_at, times, input_uses}
 use Rattle.r_edit.specs.Uses.{nodes_read}
 use Rattle.r_sweep_def.specs.Swept.{Change, swept_by}
 use Rattle.r_sweep_def.specs.Listed.{Listed, swept_in}
-use Rattle.r_sweep.proofs.lemmas.Outside.{AreOutside, AreApart, IsNone, none_of_both, none_of_rest, regions_apart, nodes_outside}
+use Rattle.r_sweep.proofs.lemmas.Outside.{AreOutside, IsNone, none_of_both, none_of_rest, regions_apart, nodes_outside}
 use Rattle.r_sweep.proofs.lemmas.Inputs.{same_place_self}
 use Rattle.r_sweep.proofs.lemmas.Blocks.{Within, start_laid, place, place_other, none_parts, here_once, not_before}
 use Rattle.r_sweep.proofs.lemmas.FromLast.{is_beyond}
 use Rattle.r_sweep.proofs.lemmas.Kept.{Fitting, fitting, numbers_of, unread_before, unread_own}
-use Rattle.r_sweep.proofs.lemmas.Reading.{start_node, node_is_found}
+use Rattle.r_sweep.proofs.lemmas.Reading.{start_node, node_is_found, input_both, input_none}
 use Rattle.r_sweep.proofs.lemmas.Standing.{within}
 use Rattle.r_sweep.specs.Walk.{until}
 use Rattle.r_sweep.specs.Fast.{IsWhole, HasSwept}
@@ -39,14 +39,6 @@ once_whole a h =
     (once_of (λ (x : FlatNode). x.id) (flat_of h.lambda).nodes (ap distinct (numbers_are h.lambda) ∙ (numbers_of h.lambda h.well).unique))
 
 -- ---- uses
-
-input_both : (p : Place) (o : Origin) (xs ys : List FlatNode) → input_uses p o (xs ++ ys) ≡ input_uses p o xs + input_uses p o ys
-input_both p o [] ys = omega arith
-input_both p o (x ∷ xs) ys = omega (arith, input_both p o xs ys)
-
-input_none : (p : Place) (o : Origin) (xs : List FlatNode) → AreApart p xs → input_uses p o xs ≡ 0
-input_none p o [] h = refl
-input_none p o (x ∷ xs) h = ap (λ t. (if t then times o x.inputs else 0) + input_uses p o xs) h.0 ∙ omega (arith, input_none p o xs h.1)
 
 -- what names no output of a node is no output of it
 not_named : (n k : ℕ) (o : Origin) → is_beyond n 0 o ≡ false → same_origin (Out n k) o ≡ false

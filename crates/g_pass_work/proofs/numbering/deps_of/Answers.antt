@@ -3,7 +3,8 @@ use Rattle.std.proofs.lemmas.List.{length-map}
 use Rattle.std.proofs.lemmas.List.Elements.{Contains-get_or}
 use Rattle.call_order.specs.Units.{call_lists}
 use Rattle.g_pass_work.specs.Renewal.{stale_jobs}
-use Rattle.g_pass_work.proofs.Numbers.{row, lists-more}
+use Rattle.g_pass_work.proofs.Numbers.{lists-more}
+use Rattle.g_pass_work.proofs.Rows.{row}
 use Rattle.g_pass_work.proofs.numbering.deps_of.Goals as goal
 
 pub bounds-deps-function : goal.bounds-deps-function
