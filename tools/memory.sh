@@ -14,7 +14,7 @@ if ! command -v gcc >/dev/null 2>&1; then
     (cd crates/cc_main && rt try --fail-alloc 1 </dev/null >"$folder/log" 2>&1)
     grep -qx memory "$folder/log" || fail "the line \`memory\` is missing"
     grep -q '^run=ended status=6 ' "$folder/log" || fail "the status is not 6"
-    echo "$script: where the first allocation fails, the line is \`memory\` and the status 6; for the others gcc is needed"
+    echo "$script: where the first allocation fails, the line is \`memory\` and the status 6; the others are skipped, gcc is not installed"
     exit 0
 fi
 compiler

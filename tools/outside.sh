@@ -31,15 +31,24 @@ $native -o "$folder/seven" "$folder/start.c" "$folder/seven.c" 2>/dev/null
 "$folder/seven" 2>/dev/null
 [ $? -eq 7 ] || { echo "$script: skipped, gcc makes no 32-bit programs that run here"; exit 0; }
 
-# Each example is defined, as far as the sanitizers see, and is accepted from the standard input.
+# Each example is defined, as far as the sanitizers see, and is accepted from the standard input. No example allocates, so no leaks are
+# looked for, which does not work everywhere.
 compiler
+export ASAN_OPTIONS=detect_leaks=0
+checked='gcc -std=c11 -fwrapv -funsigned-char -w -g -fsanitize=undefined,address -fno-sanitize-recover=all'
+sanitizers=yes
+if ! $checked -o "$folder/checked" "$folder/seven.c" 2>"$folder/report" || { "$folder/checked" 2>>"$folder/report"; [ $? -ne 7 ]; }; then
+    sanitizers=
+    echo "$script: the sanitizers of gcc do not work here, what they find is skipped: $(head -n 1 "$folder/report")"
+fi
 for source in examples/*.c; do
     input=examples/$(basename "$source" .c).in
     [ -e "$input" ] || input=/dev/null
-    gcc -std=c11 -fwrapv -funsigned-char -w -g -fsanitize=undefined,address -fno-sanitize-recover=all -o "$folder/checked" "$source" \
-        || fail "gcc refused $source"
-    "$folder/checked" <"$input" >/dev/null 2>"$folder/report"
-    grep -q 'runtime error\|Sanitizer' "$folder/report" && fail "$source is undefined: $(head -n 3 "$folder/report")"
+    if [ -n "$sanitizers" ]; then
+        $checked -o "$folder/checked" "$source" || fail "gcc refused $source"
+        "$folder/checked" <"$input" >/dev/null 2>"$folder/report"
+        grep -q 'runtime error\|Sanitizer' "$folder/report" && fail "$source is undefined: $(head -n 3 "$folder/report")"
+    fi
     "$program" <"$source" >"$folder/output" || fail "$source is not accepted from standard input"
     grep -qx 'accepted [0-9]*' "$folder/output" || fail "$source is reported as: $(cat "$folder/output")"
 done
