@@ -1,0 +1,5 @@
+/* needs: atoi */
+int atol(const char *text)
+{
+    return atoi(text);
+}

@@ -1,0 +1,5 @@
+/* needs: isalpha isdigit */
+int isalnum(int c)
+{
+    return isalpha(c) || isdigit(c);
+}

@@ -1,0 +1,5 @@
+/* needs: */
+int isalpha(int c)
+{
+    return ('a' <= c && c <= 'z') || ('A' <= c && c <= 'Z');
+}

@@ -1,0 +1,5 @@
+/* needs: */
+int isblank(int c)
+{
+    return c == ' ' || c == '\t';
+}

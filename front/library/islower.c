@@ -1,0 +1,5 @@
+/* needs: */
+int islower(int c)
+{
+    return 'a' <= c && c <= 'z';
+}

@@ -1,0 +1,5 @@
+/* needs: */
+int isprint(int c)
+{
+    return 32 <= c && c < 127;
+}

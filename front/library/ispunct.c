@@ -1,0 +1,5 @@
+/* needs: isgraph isalnum */
+int ispunct(int c)
+{
+    return isgraph(c) && !isalnum(c);
+}

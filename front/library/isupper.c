@@ -1,0 +1,5 @@
+/* needs: */
+int isupper(int c)
+{
+    return 'A' <= c && c <= 'Z';
+}

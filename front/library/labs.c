@@ -1,0 +1,5 @@
+/* needs: */
+int labs(int n)
+{
+    return n < 0 ? -n : n;
+}

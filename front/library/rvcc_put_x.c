@@ -1,0 +1,5 @@
+/* needs: rvcc_put_number */
+int rvcc_put_x(unsigned int value, int width, int zero, int left)
+{
+    return rvcc_put_number(value, 16, "0123456789abcdef", 0, width, zero, left);
+}

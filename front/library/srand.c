@@ -1,0 +1,5 @@
+/* needs: rand */
+void srand(unsigned int seed)
+{
+    rvcc_rand_state = seed;
+}

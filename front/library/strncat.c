@@ -1,0 +1,12 @@
+/* needs: strlen */
+char *strncat(char *to, const char *from, unsigned int count)
+{
+    char *end = to + strlen(to);
+    unsigned int k = 0;
+    while (k < count && from[k]) {
+        end[k] = from[k];
+        k++;
+    }
+    end[k] = 0;
+    return to;
+}

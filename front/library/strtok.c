@@ -1,0 +1,17 @@
+/* needs: strspn strcspn */
+char *rvcc_strtok_rest;
+
+char *strtok(char *text, const char *set)
+{
+    char *word = text ? text : rvcc_strtok_rest;
+    if (!word) return 0;
+    word += strspn(word, set);
+    if (!*word) {
+        rvcc_strtok_rest = 0;
+        return 0;
+    }
+    rvcc_strtok_rest = word + strcspn(word, set);
+    if (*rvcc_strtok_rest) *rvcc_strtok_rest++ = 0;
+    else rvcc_strtok_rest = 0;
+    return word;
+}
