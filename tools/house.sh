@@ -1,10 +1,11 @@
 #!/bin/sh
 # Holds the crates against docs/NAMES.md: each name has a prefix and an ending of its tables; a crate of definitions or laws has no
-# function that takes an argument and none that allocates or changes; no crate stands on one that its row does not name; and nothing
-# in specs/ and proofs/ is unused (tools/dead.py), but for what tools/dead.exceptions lists with a reason. Each file has a head, and no
-# more files of proofs have none than had. Paths and names in backquotes in README.md and docs/ are there, each arrow of the tower of
-# laws is cited, and each definition and law of docs/PROMISES.md is in the crate that its row names. `house.sh --try` tries the table of
-# edits that the scripts have to refuse.
+# function that takes an argument and none that allocates or changes; no crate stands on one that its row does not name, none passes on
+# another, and none is small and named by one alone, but for those with a reason; and nothing in specs/ and proofs/ is unused
+# (tools/dead.py), but for what tools/dead.exceptions lists with a reason. Each file has a head, and no more files of proofs have none
+# than had. Paths and names in backquotes in README.md and docs/ are there, the tables of docs/CONTRIBUTING.md have the crates that say
+# their sample words, each arrow of the tower of laws is cited, and each definition and law of docs/PROMISES.md is in the crate that its
+# row names. `house.sh --try` tries the table of edits that the scripts have to refuse.
 set -u
 cd "$(dirname "$0")/.." || exit 1
 script=tools/house.sh
@@ -48,6 +49,15 @@ house@crates.txt@/^r_cne:/s/$/ board_core/@crates.txt:[0-9]*: r_cne stands on bo
 house@crates/g_build_keeps/src/formation_laws.rt@s/fn formed_is_well_formed()/fn formed_is_well_formed(n: u32)/@g_build_keeps has a function that takes an argument
 house@crates/base/src/lib.rt@1s/[.]$/, with the names by which the crates above know it, and with what it is that each of them counts./@crates/base/src/lib.rt:1: the first sentence is longer than 110 characters
 house@tools/house.sh@s/^most_bare=.*/most_bare=1/@files of proofs begin with no comment
+house@tools/house.sh@s/^most_read=.*/most_read=1/@crates.txt: by the paths of libraries a gate reads [0-9]* files
+house@crates/cc_top/src/lib.rt@$a pub use cc_session;@crates/cc_top/src/lib.rt:[0-9]*: it passes on the crate cc_session
+house@crates/cc_top/specs/Lib.antt@$a pub use Rattle.cc_session.specs@crates/cc_top/specs/Lib.antt:[0-9]*: it passes on Rattle.cc_session.specs
+house@tools/house.sh@/^a_place_keeps: /d@crates.txt:[0-9]*: a_place_keeps has [0-9]* lines of code, and cc_emit alone names it
+house@docs/CONTRIBUTING.md@/^| `cc_view` | `proofs.Bounds/d@docs/CONTRIBUTING.md:[0-9]*: the table lacks cc_view, which says PtrEq
+house@docs/CONTRIBUTING.md@/^| `cc_source` | `proofs.FewGroups/s/cc_source/cc_emit/@docs/CONTRIBUTING.md:[0-9]*: there is no proofs/FewGroups
+house@crates/g_build_count/proofs/HasExpressions.antt@s/Complement/Opposite/g@docs/CONTRIBUTING.md:[0-9]*: the table has g_build_count, which does not say Complement|Tilde
+house@crates/c_interp/src/lib.rt@$a // Of BadJump nothing is known here.@docs/CONTRIBUTING.md:[0-9]*: the table lacks c_interp, which says BadJump
+house@crates/rv_layout/src/lib.rt@$a // Cne@docs/CONTRIBUTING.md:[0-9]*: the table lacks rv_layout, which says Cne|rule_place
 house@docs/CONTRIBUTING.md@s,^| `c_check_statement` | `src/loops.rt`,| `c_check_statement` | `src/functions.rt`,@docs/CONTRIBUTING.md:[0-9]*: there is no src/functions.rt
 house@docs/GLOSSARY.md@s/`Exi\(ted\)`/`Exo\1`/@docs/GLOSSARY.md:[0-9]*: no file of the crates has Exo
 house@docs/ARCHITECTURE.md@s/images_keep_meaning| cc_source/a_lost_law| cc_source/@docs/ARCHITECTURE.md:[0-9]*: cc_emit has no law a_lost_law
@@ -58,13 +68,14 @@ EDITS
     exit 0
 fi
 
-# ---- names: the prefixes and endings in backquotes in the first cells of the two tables, and the parts in the list
+# ---- names: the prefixes and endings in backquotes in the first cells of the two tables, the parts in the list, and fixed names
 
 cells() {
     sed -n "/^## $1\$/,/^## /p" docs/NAMES.md | grep '^| ' | sed '1d' | cut -d '|' -f 2 | grep -o '`[a-z_]*`' | tr -d '`'
 }
 cells Prefixes >"$folder/prefixes"
 cells Endings | grep '^_' >"$folder/endings"
+sed -n '/^## Endings$/,/^Parts: /p' docs/NAMES.md | grep -v '^|' | grep -o '`[a-z_]*`' | tr -d '`' >"$folder/fixed"
 sed -n '/^Parts: /,/^$/{s/^Parts://;p;}' docs/NAMES.md | tr -cs 'a-z0-9' '\n' | sed -n 's/^./_&/p' >"$folder/parts"
 [ -s "$folder/prefixes" ] && [ -s "$folder/endings" ] && [ -s "$folder/parts" ] || fail 'docs/NAMES.md has no table of prefixes, none of endings, or no list of parts'
 sed -n 's/^\([a-z][a-z0-9_]*\).*:\(.*\)/\1\2/p' crates.txt >"$folder/crates"
@@ -80,7 +91,7 @@ while read -r crate rest; do
         case $crate in "$prefix" | "$prefix"*_*) found=yes ;; "$prefix"*) case $prefix in *_) found=yes ;; esac ;; esac
     done <"$folder/prefixes"
     [ -n "$found" ] || fail "crates.txt:$(line_of "$crate"): $crate has no prefix of docs/NAMES.md"
-    grep -qx "$crate" "$folder/prefixes" || grep -qx "_${crate##*_}" "$folder/endings" "$folder/parts" \
+    grep -qx "$crate" "$folder/prefixes" "$folder/fixed" || grep -qx "_${crate##*_}" "$folder/endings" "$folder/parts" \
         || fail "crates.txt:$(line_of "$crate"): $crate has an ending that docs/NAMES.md does not list"
 done <"$folder/crates"
 for path in crates/*/; do
@@ -110,6 +121,40 @@ read_files=$(awk '
     END { printf "%d", all }
 ' "$folder/files" "$folder/programs" "$folder/crates")
 [ "$read_files" -le $most_read ] || fail "crates.txt: by the paths of libraries a gate reads $read_files files for a round of stamps, more than $most_read: name what is used alone, and let few crates stand between"
+
+# ---- passing on: each name is written by the crate where it stands
+
+find crates -path '*/out' -prune -o \( -path '*/src/*.rt' -o -name Lib.antt \) -print | LC_ALL=C sort | tr '\n' '\0' | xargs -0 awk -v known="$folder/crates" '
+    BEGIN { while ((getline line < known) > 0) { sub(/ .*/, "", line); crate[line] = 1 } }
+    /^ *pub use / {
+        word = $0; sub(/^ *pub use /, "", word)
+        if (FILENAME ~ /[.]antt$/) { if (word ~ /^Rattle[.]/) print FILENAME ":" FNR ": it passes on " word; next }
+        if (word !~ /^[a-z0-9_]+(::[*])?( as [a-z0-9_]+)?;/) next
+        sub(/[^a-z0-9_].*/, "", word)
+        if (word in crate) print FILENAME ":" FNR ": it passes on the crate " word
+    }
+' >"$folder/wrong" && [ ! -s "$folder/wrong" ] || fail "$(head -n 3 "$folder/wrong")"
+
+# ---- small crates: one that a single crate names, and that has under 150 lines of code, is a part of it, but for these
+
+cat >"$folder/apart" <<'REASONS'
+a_place_keeps: its laws are of the places of both allocators, and dear to prove
+REASONS
+find crates/*/src -type f -name '*.rt' -print | tr '\n' '\0' | xargs -0 awk '/[^ \t]/ { split(FILENAME, at, "/"); lines[at[2]]++ } END { for (name in lines) print name, lines[name] }' >"$folder/lines"
+awk -v apart="$folder/apart" -v counts="$folder/lines" '
+    BEGIN {
+        while ((getline line < apart) > 0) { sub(/:.*/, "", line); reason[line] = 1 }
+        while ((getline line < counts) > 0) { split(line, part, / /); lines[part[1]] = part[2] }
+    }
+    { for (i = 2; i <= NF; i++) { names[$i]++; by[$i] = $1 }; order[++count] = $1 }
+    END {
+        for (i = 1; i <= count; i++) {
+            name = order[i]; small = names[name] == 1 && lines[name] < 150
+            if (small && !(name in reason)) { print name " has " lines[name] + 0 " lines of code, and " by[name] " alone names it: make it a part of that"; exit 1 }
+            if (!small && (name in reason)) { print name " needs no reason to stand apart"; exit 1 }
+        }
+    }
+' "$folder/crates" >"$folder/wrong" || fail "crates.txt:$(line_of "$(cut -d ' ' -f 1 "$folder/wrong")"): $(cat "$folder/wrong")"
 
 # ---- edges: what a crate may stand on, by the rows of the prefixes, and by its ending
 
@@ -219,6 +264,29 @@ awk -v files="$folder/files" -v known="$folder/known" '
         if (!matches(word)) print $1 " there is no " $2
     }
 ' "$folder/words" >"$folder/wrong" && [ ! -s "$folder/wrong" ] || fail "$(head -n 3 "$folder/wrong")"
+
+# ---- lists of CONTRIBUTING.md: the crates of the table after a line of sample words are those that say one of them
+
+awk '
+    /^Sample words: / {
+        n = split($0, parts, "`"); words = ""; within = 1
+        for (i = 2; i <= n; i += 2) words = words (words == "" ? "" : "|") parts[i]
+        at = FNR; next
+    }
+    within && /^\| `/ { split($0, cells, "|"); n = split(cells[2], parts, "`"); for (i = 2; i <= n; i += 2) print at, words, parts[i]; begun = 1 }
+    begun && !/^\|/ { within = 0; begun = 0 }
+' docs/CONTRIBUTING.md >"$folder/samples"
+[ -s "$folder/samples" ] || fail 'docs/CONTRIBUTING.md has no table after a line of sample words'
+find crates/*/src crates/*/specs crates/*/proofs -type f \( -name '*.rt' -o -name '*.antt' \) -print 2>/dev/null | tr '\n' '\0' >"$folder/texts"
+cut -d ' ' -f 1,2 "$folder/samples" | uniq >"$folder/lists"
+while read -r at words; do
+    xargs -0 grep -lwE "$words" <"$folder/texts" | cut -d / -f 2 | LC_ALL=C sort -u >"$folder/say"
+    awk -v at="$at" '$1 == at { print $3 }' "$folder/samples" | LC_ALL=C sort -u >"$folder/listed"
+    wrong=$(LC_ALL=C comm -23 "$folder/say" "$folder/listed" | head -n 1)
+    [ -z "$wrong" ] || fail "docs/CONTRIBUTING.md:$at: the table lacks $wrong, which says $words"
+    wrong=$(LC_ALL=C comm -13 "$folder/say" "$folder/listed" | head -n 1)
+    [ -z "$wrong" ] || fail "docs/CONTRIBUTING.md:$at: the table has $wrong, which does not say $words"
+done <"$folder/lists"
 
 # ---- names: a word, or each of those that `::` joins, is a crate, or a name that the crates have
 
