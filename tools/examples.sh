@@ -1,6 +1,6 @@
 #!/bin/sh
 # Builds and runs each program of examples and examples/embedded on its input: what it writes, and how it ends, is what stands in
-# NAME.out beside it, which gcc's program gave, and gives again where gcc is there. The habit versions of the embedded ones give the same.
+# NAME.out beside it, and so does gcc's program, where gcc is there, of it and of the one of that name in examples/embedded/habit.
 set -u
 cd "$(dirname "$0")/.." || exit 1
 script=tools/examples.sh
@@ -9,7 +9,7 @@ compiler
 
 gcc=
 command -v gcc >/dev/null 2>&1 && gcc='gcc -std=c11 -fwrapv -funsigned-char -w -O1'
-[ -n "$gcc" ] || echo "$script: gcc is not installed, so the outputs are not compared with its programs'"
+[ -n "$gcc" ] || echo "$script: gcc is not installed, so the outputs are not compared with its programs"
 
 count=0
 for source in examples/*.c examples/embedded/*.c; do

@@ -15,14 +15,19 @@ PROGRAM, FOLDER = sys.argv[1:3]
 SWEEPS = "fold,inv,cne,dne,inv,dne"
 ROWS = [[], ["--recipe", "none"], ["--recipe", SWEEPS], ["--code", "tight"], ["--code", "tight", "--recipe", SWEEPS]]
 GCC = ["riscv64-unknown-elf-gcc", "-march=rv32im", "-mabi=ilp32", "-std=gnu11", "-fwrapv", "-funsigned-char", "-w", "-fno-builtin",
-       "-ffreestanding", "-fno-tree-loop-distribute-patterns", "-nostdlib", "-static"]
-# The three functions of the language, as short as an image has them.
+       "-ffreestanding", "-fno-tree-loop-distribute-patterns", "-nostdlib", "-static",
+       "-ffunction-sections", "-Wl,--gc-sections"]
+# The three functions of the language, as short as an image has them, and two that gcc's code may call, linked where it does.
 START = """
 __asm__(".globl _start\\n_start: la sp, stack_end\\ncall main\\ncall exit\\n"
         "putchar: addi sp, sp, -16\\nsb a0, 0(sp)\\nli a0, 1\\nmv a1, sp\\nli a2, 1\\nli a7, 64\\necall\\nlbu a0, 0(sp)\\n"
         "addi sp, sp, 16\\nret\\n"
         "getchar: addi sp, sp, -16\\nli a0, 0\\nmv a1, sp\\nli a2, 1\\nli a7, 63\\necall\\nmv a1, a0\\nli a0, -1\\nblez a1, 1f\\n"
         "lbu a0, 0(sp)\\n1: addi sp, sp, 16\\nret\\n"
+        ".section .text.memcpy, \\"ax\\"\\n.globl memcpy\\nmemcpy: mv a5, a0\\n1: beqz a2, 2f\\nlbu a4, 0(a1)\\nsb a4, 0(a5)\\naddi a1, a1, 1\\n"
+        "addi a5, a5, 1\\naddi a2, a2, -1\\nj 1b\\n2: ret\\n"
+        ".section .text.memset, \\"ax\\"\\n.globl memset\\nmemset: mv a5, a0\\n1: beqz a2, 2f\\nsb a1, 0(a5)\\naddi a5, a5, 1\\n"
+        "addi a2, a2, -1\\nj 1b\\n2: ret\\n.text\\n"
         "exit: li a7, 93\\necall\\n"
         ".globl putchar, getchar, exit\\n.bss\\n.space 1048576\\n.balign 16\\nstack_end: .space 16\\n");
 """
