@@ -300,6 +300,7 @@ awk -v known="$folder/known" '
 {
     find crates -path '*/out' -prune -o \( -name '*.rt' -o -name '*.antt' -o -name '*.edit' \) -print | tr '\n' '\0' | xargs -0 cat
     cat docs/prices.tsv tools/* rows/*.py
+    find front examples -type f \( -name '*.[chsi]' -o -name '*.in' -o -name '*.py' -o -name '*.tsv' \) -print | tr '\n' '\0' | xargs -0 cat
     sed 's,.*/,,; s,[.][a-z]*$,,' "$folder/files"
     sed -n 's/^row \([a-z_0-9]*\).*/\1/p' crates/*/stdin
 } | LC_ALL=C tr -cs 'A-Za-z0-9_' '\n' | LC_ALL=C sort -u >"$folder/there"
