@@ -10,6 +10,13 @@ script=tools/session.sh
 compiler
 view=$(sh tools/program.sh rvcc-view) || exit 1
 
+# What rvcc-cc needs: pycparser, for one of the two that it looks for, and a preprocessor.
+has_front=
+for python in python3 /usr/bin/python3; do
+    ! $python -c 'import pycparser' 2>/dev/null || has_front=yes
+done
+command -v gcc >/dev/null 2>&1 || command -v clang >/dev/null 2>&1 || command -v cpp >/dev/null 2>&1 || command -v tcc >/dev/null 2>&1 || has_front=
+
 # Each command stands in a file of its number, its line in another, and what it should write in a third.
 commands=0
 skipped=
@@ -31,7 +38,7 @@ for page in README.md docs/*.md; do
         begun { within = 0; print > (folder "/wanted." number) }
         END { if (!wrong) print number + 0 }
     ' "$page" >"$place/count" || fail "$(cat "$place/count")"
-    mkdir "$place/session" "$place/session/home" "$place/session/bin" && cp -R examples "$place/session/" \
+    mkdir "$place/session" "$place/session/home" "$place/session/bin" && cp -R examples front rvcc-cc "$place/session/" \
         && cp "$program" "$place/session/bin/rvcc" && cp "$view" "$place/session/bin/rvcc-view" && cp "$place/session/bin"/* "$place/session/" || fail 'there is no room'
     number=1
     while [ $number -le "$(cat "$place/count")" ]; do
@@ -39,6 +46,7 @@ for page in README.md docs/*.md; do
         for outside in qemu-riscv32 cpp dot; do
             ! grep -q "\(^\|[ |&]\)$outside " "$place/command.$number" || command -v $outside >/dev/null 2>&1 || missing="$missing $outside"
         done
+        ! grep -q '/rvcc-cc ' "$place/command.$number" || [ -n "$has_front" ] || missing="$missing python3-pycparser"
         if [ -n "$missing" ]; then
             skipped="$skipped$missing"
         else
