@@ -19,7 +19,8 @@ GCC = ["riscv64-unknown-elf-gcc", "-march=rv32im", "-mabi=ilp32", "-std=gnu11", 
        "-ffunction-sections", "-Wl,--gc-sections"]
 # The three functions of the language, as short as an image has them, and two that gcc's code may call, linked where it does.
 START = """
-__asm__(".globl _start\\n_start: la sp, stack_end\\ncall main\\ncall exit\\n"
+__asm__(".globl _start\\n_start: .option push\\n.option norelax\\nla gp, __global_pointer$\\n"
+        ".option pop\\nla sp, stack_end\\ncall main\\ncall exit\\n"
         "putchar: addi sp, sp, -16\\nsb a0, 0(sp)\\nli a0, 1\\nmv a1, sp\\nli a2, 1\\nli a7, 64\\necall\\nlbu a0, 0(sp)\\n"
         "addi sp, sp, 16\\nret\\n"
         "getchar: addi sp, sp, -16\\nli a0, 0\\nmv a1, sp\\nli a2, 1\\nli a7, 63\\necall\\nmv a1, a0\\nli a0, -1\\nblez a1, 1f\\n"
