@@ -1,0 +1,3 @@
+// 2:2: error: #error not here
+#error not here
+int main(void) { return 0; }

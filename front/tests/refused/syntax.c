@@ -1,0 +1,3 @@
+// 3:1: error: syntax error before `}`
+int main(void) { return 0
+}
