@@ -1,5 +1,5 @@
-/* needs: atoi */
+/* needs: rvcc_read_int */
 int atol(const char *text)
 {
-    return atoi(text);
+    return rvcc_read_int(text);
 }

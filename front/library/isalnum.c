@@ -1,5 +1,5 @@
-/* needs: isalpha isdigit */
+/* needs: */
 int isalnum(int c)
 {
-    return isalpha(c) || isdigit(c);
+    return ('a' <= c && c <= 'z') || ('A' <= c && c <= 'Z') || ('0' <= c && c <= '9');
 }

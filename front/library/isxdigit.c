@@ -1,5 +1,5 @@
-/* needs: isdigit */
+/* needs: */
 int isxdigit(int c)
 {
-    return isdigit(c) || ('a' <= c && c <= 'f') || ('A' <= c && c <= 'F');
+    return ('0' <= c && c <= '9') || ('a' <= c && c <= 'f') || ('A' <= c && c <= 'F');
 }

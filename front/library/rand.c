@@ -1,6 +1,4 @@
-/* needs: */
-unsigned int rvcc_rand_state = 1;
-
+/* needs: rvcc_rand_state */
 /* The generator that stands in the C standard as an example: numbers from 0 to 32767. */
 int rand(void)
 {

@@ -1,4 +1,4 @@
-/* needs: abort rvcc_put_text rvcc_put_d */
+/* needs: rvcc_put_text rvcc_put_d */
 void rvcc_assert(const char *text, const char *file, int line)
 {
     rvcc_put_text(file);
@@ -7,5 +7,5 @@ void rvcc_assert(const char *text, const char *file, int line)
     rvcc_put_text(": assertion failed: ");
     rvcc_put_text(text);
     putchar('\n');
-    abort();
+    exit(134);
 }

@@ -1,7 +1,8 @@
-/* needs: strlen rvcc_put_text rvcc_put_blanks */
+/* needs: rvcc_put_text rvcc_put_blanks */
 int rvcc_put_s(const char *text, int width, int left)
 {
-    int length = strlen(text);
+    int length = 0;
+    while (text[length]) length++;
     if (width < 0) {
         width = -width;
         left = 1;

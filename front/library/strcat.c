@@ -1,6 +1,11 @@
-/* needs: strcpy strlen */
+/* needs: */
 char *strcat(char *to, const char *from)
 {
-    strcpy(to + strlen(to), from);
+    char *end = to;
+    while (*end) end++;
+    while ((*end = *from)) {
+        end++;
+        from++;
+    }
     return to;
 }

@@ -1,6 +1,6 @@
-/* needs: strcspn */
+/* needs: rvcc_span */
 char *strpbrk(const char *text, const char *set)
 {
-    text += strcspn(text, set);
+    text += rvcc_span(text, set, 1);
     return *text ? text : 0;
 }

@@ -1,7 +1,5 @@
-/* needs: strchr */
+/* needs: rvcc_span */
 unsigned int strspn(const char *text, const char *set)
 {
-    unsigned int count = 0;
-    while (text[count] && strchr(set, text[count])) count++;
-    return count;
+    return rvcc_span(text, set, 0);
 }

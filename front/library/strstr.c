@@ -1,10 +1,11 @@
-/* needs: strncmp strlen */
+/* needs: */
 char *strstr(const char *text, const char *part)
 {
-    unsigned int length = strlen(part);
-    while (strncmp(text, part, length) != 0) {
+    while (1) {
+        unsigned int k = 0;
+        while (part[k] && text[k] == part[k]) k++;
+        if (!part[k]) return text;
         if (!*text) return 0;
         text++;
     }
-    return text;
 }

@@ -1,5 +1,5 @@
-/* needs: isupper */
+/* needs: */
 int tolower(int c)
 {
-    return isupper(c) ? c + 32 : c;
+    return 'A' <= c && c <= 'Z' ? c + 32 : c;
 }

@@ -1,5 +1,5 @@
-/* needs: islower */
+/* needs: */
 int toupper(int c)
 {
-    return islower(c) ? c - 32 : c;
+    return 'a' <= c && c <= 'z' ? c - 32 : c;
 }

@@ -1,0 +1,2 @@
+/* needs: */
+unsigned int rvcc_rand_state = 1;
