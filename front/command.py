@@ -46,11 +46,12 @@ def located(place):
 
 
 def program(name):
-    """The command of `rvcc` or `rvcc-view`."""
+    """The command of `rvcc` or `rvcc-view`: that of the environment or beside it, else the one beside `rvcc-cc`."""
     chosen = os.environ.get('RVCC')
-    if chosen:
-        return os.path.join(os.path.dirname(chosen), 'rvcc-view') if name == 'rvcc-view' else chosen
-    return os.path.join(TOP, name)
+    if chosen and name == 'rvcc':
+        return chosen
+    beside = os.path.join(os.path.dirname(chosen or ''), name)
+    return beside if chosen and os.access(beside, os.X_OK) else os.path.join(TOP, name)
 
 
 def refused(source, places, said, listing=None):

@@ -13,6 +13,6 @@ int main(void)
         total += sum((int[]){ k, k + 1, 4 }, 3) + *&(int){ k };
     }
     total += length(&(struct line){ .to = { 2, 3 }, .from = q, .tag = "ab" });
-    total += (struct p){ 1, 2 }.y + table[2] + origin->y + (int)sizeof (int[4]){ 0 };
+    total += (&(struct p){ 1, 2 })->y + table[2] + origin->y + (int)sizeof(int[4]);
     return (total + q.x + q.y) & 255;
 }
