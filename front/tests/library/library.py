@@ -77,5 +77,6 @@ missing = every - {key.split(" ")[0] for key in used}
 if missing:
     print("no test calls " + " ".join(sorted(missing)))
     wrong = 1
-print("tools/library.sh: %d functions of the library in %d programs do what gcc's do" % (len(every), len(names)))
+if not wrong:
+    print("%d functions of the library in %d programs do what gcc's do" % (len(every), len(names)))
 sys.exit(wrong)
