@@ -1,7 +1,7 @@
 #!/bin/sh
 # Holds the program rvcc-view against tables of expected values: graphs of sources, and of recipes before, after and between their
-# steps, as rows; what each sweep does; where refusals are, with the words of docs/REPORTS.md; frames and stacks of examples; and a
-# debugger, where it is installed, stops at a function of a listing. It prints each difference.
+# steps, as rows; what each sweep does; where refusals are, with the words of docs/REPORTS.md; frames and stacks of examples; a
+# debugger, where it is installed, stops at a function of a listing; and pages (tools/page) have each step. It prints each difference.
 set -u
 cd "$(dirname "$0")/.." || exit 1
 script=tools/view.sh
@@ -13,9 +13,11 @@ compiler
 cat >"$folder/view.py" <<'END'
 import os
 import re
+import resource
 import shutil
 import subprocess
 import sys
+import xml.etree.ElementTree
 
 sys.path.insert(0, "rows")
 import read
@@ -201,6 +203,62 @@ if shutil.which("dot"):
             same(name + ", drawing", (0, 0, b""), (status, laid.returncode, laid.stderr))
 else:
     print("tools/view.sh: nothing is laid out, dot is not installed")
+
+# ---- pages: as many drawings as steps or sweeps and one for the end, each well formed; where there is no page no file is written
+
+def page(*words):
+    """The status and the report of tools/page in the folder, and the page where there is one."""
+    found = subprocess.run(["sh", os.path.abspath("tools/page"), *words], capture_output=True, cwd=folder)
+    written = None
+    if os.path.exists(os.path.join(folder, "out.html")):
+        with open(os.path.join(folder, "out.html"), "rb") as file:
+            written = file.read()
+        os.remove(os.path.join(folder, "out.html"))
+    return found.returncode, found.stderr.decode("latin-1"), written
+
+
+def used():
+    """The seconds that processes took that have ended."""
+    spent = resource.getrusage(resource.RUSAGE_CHILDREN)
+    return spent.ru_utime + spent.ru_stime
+
+
+if shutil.which("dot"):
+    for name, function in (("squares.c", "number"), ("words.c", "end_word")):
+        if not os.path.exists("examples/" + name):
+            continue
+        with open("examples/" + name, "rb") as file:
+            sweeps = sweeps_of(call(view, file.read(), "steps")[1], function)
+        steps = [int(row[3]) for row in sweeps]
+        wanted = sum(steps) if sum(steps) <= 80 else sum(count > 0 for count in steps)
+        before = used()
+        status, said, written = page("in.c", "out.html", "--function", function)
+        what = "the page of %s" % function
+        same(what, (0, ""), (status, said))
+        same(what + ", seconds", True, used() - before <= 5)
+        same(what + ", size", True, len(written or b"") <= 4000000)
+        shown = [e for e in xml.etree.ElementTree.fromstring(written or b"<html/>").iter() if e.tag.endswith("}section")]
+        drawn = [[e for e in section.iter() if e.tag == "{http://www.w3.org/2000/svg}svg"] for section in shown]
+        same(what + ", drawings", [1] * (wanted + 1), list(map(len, drawn)))
+        red = [any(e.get("stroke") == "#dc2626" for e in section.iter()) for section in shown]
+        same(what + ", red", [True] * wanted + [False], red)
+    odd = b"int main(void) { return 1 < 2 & 3; } // <b>&amp; \xff\xc3\xa9 ]]>\n"
+    call(view, odd, "steps")
+    status, said, written = page("in.c", "out.html", "--recipe", "fold,dne")
+    same("an odd source, page", (0, ""), (status, said))
+    text = "".join(xml.etree.ElementTree.fromstring(written or b"<html/>").itertext())
+    same("an odd source, shown", True, "return 1 < 2 & 3; } // <b>&amp; ... ]]>\n" in text)
+    for wanted, words in ((1, ("in.c",)), (1, ("out.html", "in.c")), (1, ("--function", "main", "in.c", "out.html")),
+                          (1, ("in.c", "out.html", "--function", "none")), (1, ("in.c", "out.html", "--function", "ma.n")),
+                          (1, ("in.c", "out.html", "--recipe", "fold,")), (1, ("in.c", "out.html", "--recipe")),
+                          (2, ("none.c", "out.html")), (3, ("in.c", "none/out.html"))):
+        status, said, written = page(*words)
+        same("page " + " ".join(words), (wanted, True, None), (status, said != "", written))
+    explained = call(view, b"int main(void) { return x; }", "explain")
+    status, said, written = page("in.c", "out.html")
+    same("the page of a refused source", (explained[0], True, None), (status, explained[1].decode() in said, written))
+else:
+    print("tools/view.sh: no page is made, dot is not installed")
 
 # ---- what is no command, and what is refused
 
