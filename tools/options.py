@@ -50,7 +50,7 @@ def instructions(image, data):
     low, high = 0, 1 << 26
     ended = run(image, data, high)
     if not ended.stderr.startswith(b"exit"):
-        sys.exit("tools/options.sh: a run of %s ends with %s" % (image, ended.stderr.decode()))
+        sys.exit("tools/options: a run of %s ends with %s" % (image, ended.stderr.decode()))
     while high - low > max(1, high >> 13):
         middle = (low + high) // 2
         if run(image, data, middle).stderr.startswith(b"exit"):
@@ -104,7 +104,7 @@ for options in rows:
         subprocess.run([PROGRAM, "build", source, image, *options], check=True)
         found, wrote = instructions(image, data)
         if wrote != output:
-            sys.exit("tools/options.sh: %s with %s writes otherwise than gcc's program" % (name, " ".join(options)))
+            sys.exit("tools/options: %s with %s writes otherwise than gcc's program" % (name, " ".join(options)))
         ran.append(found / steps)
         sizes.append(text(image) / size)
         if "--each" in sys.argv:
