@@ -1,6 +1,6 @@
 -- The edit of a Gamma's entry variables: some of them go, with their arguments in every region, and what names later
 -- arguments follows.
-use Rattle.std.specs.Prelude.{ℕ, ◌==◌, ◌||◌, not, if◌then◌else◌, Bool, true, false, List, ◌∷◌, map}
+use Rattle.std.specs.Prelude.{◌≡◌, ℕ, ◌+◌, ◌==◌, ◌||◌, not, if◌then◌else◌, Bool, true, false, List, ◌∷◌, map, slice_index, EachIndex}
 use Rattle.g_graph.specs.declared.op.Origin.{Origin}
 use Rattle.g_graph.specs.declared.op.Origin.TheVariants.{Arg, Out}
 use Rattle.g_graph.specs.Plain.{RegionTree, region, NodeTree, node, NodeTrees, no_nodes, node_then, RegionTrees, no_regions, region_then, id_of}
@@ -12,6 +12,10 @@ use Rattle.r_edit.specs.Places.{stays_at, kept, place_after}
 abbrev pub argument_after : (stays : List Bool) → Origin → Origin
 argument_after stays (Arg k) = Arg (place_after stays k)
 argument_after stays (Out n p) = Out n p
+
+-- of each place, how many places before it go
+abbrev pub AreGone : (stays : List Bool) → (gone : List ℕ) → Type 0
+AreGone stays gone = EachIndex gone (λ k. slice_index gone k + place_after stays k ≡ k)
 
 abbrev pub is_gone_argument : (stays : List Bool) → Origin → Bool
 is_gone_argument stays (Arg k) = not (stays_at stays k)

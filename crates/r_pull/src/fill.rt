@@ -52,12 +52,13 @@ pub fn take(alloc: Global, user: &mut Node, plan: Plan)
 {
     let Plan {
         stays,
+        mut room,
         inputs,
         mut lists,
     } = plan;
     user.inputs = inputs;
     fill_all(alloc, &mut user.regions, &mut lists, &stays);
-    keep_entries_of(user, &stays);
+    keep_entries_of(user, &stays, &mut room);
 }
 
 fn fill_all(alloc: Global, regions: &mut Vec<Region>, lists: &mut Vec<NewLists>, stays: &[bool])

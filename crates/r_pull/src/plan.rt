@@ -23,10 +23,11 @@ pub struct NewLists {
 }
 
 /// The change of the Gamma: which of its entries stay, its inputs with the new ones, and the new
-/// lists of its regions.
+/// lists of its regions; and a place for each input, so that the entries that go are counted.
 #[derive(Drop)]
 pub struct Plan {
     pub stays: Vec<bool>,
+    pub room: Vec<usize>,
     pub inputs: SmallVec<Origin, 4>,
     pub lists: Vec<NewLists>,
 }
@@ -89,8 +90,11 @@ fn plan_of(
     let stays = staying(alloc, form.entries, form.id)?;
     let inputs = longer(alloc, inputs, form.inputs)?;
     let lists = all_lists(alloc, regions, form, next)?;
+    let mut room = Vec::new(alloc);
+    room.resize(inputs.len(), 0)?;
     Ok(Plan {
         stays,
+        room,
         inputs,
         lists,
     })

@@ -52,6 +52,16 @@ pub place_zero : (ts : List Bool) → place_after ts 0 ≡ 0
 place_zero [] = refl
 place_zero (t ∷ ts) = refl
 
+place_suc : (ts : List Bool) (k : ℕ) → cond (stays_at ts k) 0 1 + place_after ts (suc k) ≡ 1 + place_after ts k
+place_suc [] k = omega arith
+place_suc (true ∷ ts) zero = omega (arith, place_zero ts)
+place_suc (false ∷ ts) zero = omega (arith, place_zero ts)
+place_suc (true ∷ ts) (suc k) = omega (arith, place_suc ts k)
+place_suc (false ∷ ts) (suc k) = place_suc ts k
+
+pub place_next : (ts : List Bool) (k : ℕ) → cond (stays_at ts k) 0 1 + place_after ts (k + 1) ≡ 1 + place_after ts k
+place_next ts k = rw add-one (place_suc ts k)
+
 -- ---- tests
 
 pub stays_get : (ts : List Bool) (i : ℕ) (d : Bool) → i < length ts → stays_at ts i ≡ get_or ts i d
