@@ -17,6 +17,7 @@ mod Saturated
 pub mod Found
 mod Filled
 mod Moves
+mod Later
 mod WalkExamples
 mod Places
 mod WalkStep
